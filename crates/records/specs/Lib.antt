@@ -1,0 +1,4 @@
+pub mod Declines
+pub mod Bytes
+pub mod Plates
+pub mod Kinds
