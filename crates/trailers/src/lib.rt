@@ -1,0 +1,3 @@
+// The trailer of a module: its rules, and the window through which it is read.
+pub mod layouts;
+pub mod windows;
