@@ -40,6 +40,11 @@ impl Size {
         if g < self.j { 2 << self.x } else { 1 << self.x }
     }
 
+    /// The number of used cells.
+    pub fn cells(&self) -> u64 {
+        self.buckets() * self.b
+    }
+
     pub fn grown(&self) -> Size {
         let mut next = *self;
         next.j += 1;
@@ -62,28 +67,49 @@ impl Size {
         last.j -= 1;
         Some(last)
     }
+}
 
-    /// Where a choice lies, found by laying the buckets out one extent after the other as the table grew.
-    pub fn position(&self, choice: u32) -> u64 {
-        let g = if self.t == 0 { 0 } else { u64::from(choice) >> (32 - self.t) };
-        let b = u64::from(choice) % self.buckets_of(g);
-        let mut next = self.subtables();
-        if b == 0 {
-            return g;
-        }
-        let mut extent = 1;
-        loop {
-            // every subtable in turn adds as many buckets as it has
-            for h in 0..self.subtables() {
-                for bucket in extent..2 * extent {
-                    if (h, bucket) == (g, b) {
-                        return next;
-                    }
-                    next += 1;
-                }
+/// Where every bucket of a size lies, found by laying the buckets out grow after grow, from one bucket to a subtable on.
+pub struct Layout {
+    size: Size,
+    /// The positions of each subtable's buckets.
+    positions: Vec<Vec<u64>>,
+}
+
+impl Layout {
+    /// Asked only of lawful sizes.
+    pub fn new(size: Size) -> Layout {
+        let mut positions: Vec<Vec<u64>> = (0..size.subtables()).map(|g| vec![g]).collect();
+        let mut next = size.subtables();
+        let mut now = Size { x: 0, j: 0, ..size };
+        while now != size {
+            // the doubled subtable adds as many buckets as it has
+            for _ in 0..now.buckets_of(now.j) {
+                positions[now.j as usize].push(next);
+                next += 1;
             }
-            extent *= 2;
+            now = now.grown();
         }
+        Layout { size, positions }
+    }
+
+    pub fn position(&self, choice: u32) -> u64 {
+        let subtable = if self.size.t == 0 { 0 } else { choice >> (32 - self.size.t) };
+        let buckets = &self.positions[subtable as usize];
+        buckets[choice as usize % buckets.len()]
+    }
+
+    /// The positions of the choices of a hash word, in their order.
+    pub fn positions(&self, word: u64) -> Vec<u64> {
+        (0..self.size.h).map(|i| self.position(choice(word, i))).collect()
+    }
+}
+
+/// The word that a hash family gives for two key words.
+pub fn hash(family: u64, words: (u64, u64)) -> u64 {
+    match family {
+        1 => fnv(&[words.0.to_be_bytes(), words.1.to_be_bytes()].concat()),
+        _ => words.1,
     }
 }
 
@@ -108,6 +134,10 @@ pub fn plate_words(text: &[u8]) -> Option<(u64, u64)> {
     }
     let mut bytes = text.to_vec();
     bytes.resize(12, b' ');
-    let number = |part: &[u8]| part.iter().fold(0u64, |n, b| n << 8 | u64::from(*b));
     Some((number(&bytes[..8]), number(&bytes[8..])))
+}
+
+/// Bytes as a big-endian number.
+pub fn number(bytes: &[u8]) -> u64 {
+    bytes.iter().fold(0, |n, b| n << 8 | u64::from(*b))
 }

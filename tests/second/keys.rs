@@ -1,6 +1,6 @@
 //! Lines for keyrun, and the answers that they should get.
 
-use crate::addresses::{choice, fnv, plate_words, Size, MOST_BUCKETS};
+use crate::addresses::{fnv, plate_words, Layout, Size, MOST_BUCKETS};
 use crate::random::Random;
 
 /// A line, most often one that can be answered.
@@ -76,8 +76,8 @@ pub fn answer(line: &[u8]) -> String {
         },
         b'a' => sized("a", asked, 8, |size, rest| {
             let mut text = format!("a 0 {}", size.buckets());
-            for i in 0..size.h {
-                text.push_str(&format!(" {}", size.position(choice(rest[0], i))));
+            for position in Layout::new(size).positions(rest[0]) {
+                text.push_str(&format!(" {position}"));
             }
             text
         }),
