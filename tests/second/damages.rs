@@ -2,13 +2,13 @@
 
 use crate::addresses::number;
 use crate::cells::{self, CELL};
-use crate::modules::{key, noise, record, Module};
+use crate::modules::{noise, record, Module};
 use crate::random::Random;
 use crate::trailers::TRAILER;
 
 /// Damages the used cells or the count of records.
 pub fn cells_or_count(random: &mut Random, module: &mut Module) {
-    match random.below(10) {
+    match random.below(11) {
         0..=2 => spoil(random, module),
         3..=5 => misplace(random, module),
         6..=8 => repeat(random, module),
@@ -125,8 +125,7 @@ fn miscount(random: &mut Random, module: &mut Module) {
             }
         }
         _ => {
-            let mut added = record(random, module.kind);
-            added.words = key(random, module.kind);
+            let added = record(random, module.kind);
             let own = module.own_cells(added.words);
             if let Some(free) = own.into_iter().find(|cell| module.used[*cell] == [0; CELL]) {
                 module.used[free] = cells::write(module.kind, added);
@@ -157,7 +156,10 @@ pub fn trailer_or_length(random: &mut Random, bytes: &mut Vec<u8>) {
                 0 | 1 => value.wrapping_add(1),
                 2 | 3 => value.wrapping_sub(1),
                 4 => random.pick(&[0, 1, 2, 3, 5, 7, 9, 15, 16, 32, 63, 64, 99, 128, 255]),
-                _ => random.pick(&[value.wrapping_add(32), value.wrapping_sub(32), 256, random.word()]),
+                _ => {
+                    let any = random.word();
+                    random.pick(&[value.wrapping_add(32), value.wrapping_sub(32), 256, any])
+                }
             };
             field.copy_from_slice(&value.to_be_bytes()[8 - width..]);
         }

@@ -60,6 +60,11 @@ pub fn modules() -> Vec<Vec<u8>> {
             modules.push(module);
         }
     }
+    // the end of a module, from nothing at all to more than the trailer
+    let whole = empty(1, 1, base, 0, 0);
+    for length in 0..2 * TRAILER {
+        modules.push(whole[whole.len() - length..].to_vec());
+    }
     modules
 }
 

@@ -4,7 +4,7 @@ use crate::addresses::Size;
 use crate::cells::Words;
 use crate::judge::Table;
 use crate::random::Random;
-use crate::tally::Tally;
+use crate::tally::{keep, Tally};
 use crate::{edges, modules};
 
 /// The calls as include/firmware.h has them.
@@ -41,7 +41,7 @@ impl Comparison {
         self.checks.wanted(wanted % 256);
         let answer = module_check(module);
         if answer != wanted {
-            self.checks.differs(|| format!("{}: {}, not {}", crate::keep(module), check_text(answer), check_text(wanted)));
+            self.checks.differs(|| format!("{}: {}, not {}", keep(module), check_text(answer), check_text(wanted)));
         }
         for words in ask {
             let wanted = table.as_ref().map_or(14, |table| table.find(*words).map_or(0, |(cell, _)| 256 * (cell + 1)));
@@ -55,7 +55,7 @@ impl Comparison {
                 self.finds.differs(|| {
                     let (first, second) = words;
                     let (answer, wanted) = (find_text(answer), find_text(wanted));
-                    format!("{} {first:016x} {second:016x}: {answer}, not {wanted}", crate::keep(module))
+                    format!("{} {first:016x} {second:016x}: {answer}, not {wanted}", keep(module))
                 });
             }
         }

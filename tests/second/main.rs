@@ -25,15 +25,3 @@ fn main() {
         exit(1);
     }
 }
-
-/// Keeps a module for which answers differ, and says where.
-fn keep(module: &[u8]) -> String {
-    use std::hash::{DefaultHasher, Hash, Hasher};
-    let mut hasher = DefaultHasher::new();
-    module.hash(&mut hasher);
-    let path = std::env::temp_dir().join(format!("module-{:016x}", hasher.finish()));
-    match std::fs::write(&path, module) {
-        Ok(()) => path.display().to_string(),
-        Err(error) => format!("a module of {} bytes, not kept: {error},", module.len()),
-    }
-}

@@ -147,11 +147,10 @@ impl Module {
             .collect()
     }
 
-    /// A used cell that is not empty, if one is found soon.
+    /// A used cell that is not empty, if there is one.
     pub fn some_record(&self, random: &mut Random) -> Option<usize> {
         let start = random.below(self.used.len() as u64) as usize;
-        let cells = (start..self.used.len()).chain(0..start);
-        cells.into_iter().find(|cell| self.used[*cell] != [0; CELL])
+        (start..self.used.len()).chain(0..start).find(|cell| self.used[*cell] != [0; CELL])
     }
 
     pub fn words_at(&self, cell: usize) -> Words {
@@ -166,10 +165,11 @@ impl Module {
                 let (first, second) = self.words_at(cell);
                 ask.push((first, second));
                 // nearly the same words: no key, or one of the same buckets by the straight family
+                let bit = 1 << random.below(64);
                 ask.push(random.pick(&[
-                    (first ^ 1 << random.below(64), second),
+                    (first ^ bit, second),
+                    (first, second ^ bit),
                     (first, second ^ 1 << 52),
-                    (first, second ^ 1 << random.below(64)),
                     (second, first),
                 ]));
             }

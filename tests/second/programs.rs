@@ -1,14 +1,14 @@
 //! Comparisons with the programs, through their standard input, arguments and standard output.
 
 use crate::random::Random;
-use crate::tally::Tally;
+use crate::tally::{keep, Tally};
 use crate::{keys, modules, report};
 use std::ffi::OsStr;
 use std::io::Write;
 use std::os::unix::ffi::OsStrExt;
 use std::process::{Command, Stdio};
 
-/// What a program writes when it is given this input and these arguments.
+/// What a program writes when it is given this input and these arguments, and one line more if it fails.
 fn run(folder: &str, program: &str, arguments: &[Vec<u8>], input: &[u8]) -> Vec<u8> {
     let mut child = Command::new(format!("{folder}/{program}"))
         .args(arguments.iter().map(|argument| OsStr::from_bytes(argument)))
@@ -17,12 +17,14 @@ fn run(folder: &str, program: &str, arguments: &[Vec<u8>], input: &[u8]) -> Vec<
         .spawn()
         .expect("the program starts");
     let mut pipe = child.stdin.take().expect("a pipe");
-    let output = std::thread::scope(|scope| {
+    let mut output = std::thread::scope(|scope| {
         // a program that ends early closes the pipe, which its output will show
         scope.spawn(move || drop(pipe.write_all(input)));
         child.wait_with_output().expect("the program ends")
     });
-    assert!(output.status.success(), "{program} ended with {}", output.status);
+    if !output.status.success() {
+        output.stdout.extend(format!("(ended with {})\n", output.status).bytes());
+    }
     output.stdout
 }
 
@@ -31,8 +33,8 @@ pub fn compare_keyrun(folder: &str) -> usize {
     let lines: Vec<Vec<u8>> = (0..20_000).map(|_| keys::line(&mut random)).collect();
     let mut input = lines.join(&b'\n');
     input.push(b'\n');
-    let output = String::from_utf8(run(folder, "keyrun", &[], &input)).expect("text");
-    let answers: Vec<&str> = output.lines().collect();
+    let output = run(folder, "keyrun", &[], &input);
+    let answers: Vec<_> = String::from_utf8_lossy(&output).lines().map(str::to_string).collect();
     let mut tally = Tally::new("keyrun", "lines");
     if answers.len() != lines.len() {
         tally.differs(|| format!("{} answers to {} lines", answers.len(), lines.len()));
@@ -61,10 +63,9 @@ pub fn compare_modcheck(folder: &str) -> usize {
         let answer = run(folder, "modcheck", &keys, &sample.bytes);
         if answer != wanted.text {
             checks.differs(|| {
-                let keys: Vec<_> = keys.iter().map(|key| String::from_utf8_lossy(key)).collect();
-                let at = crate::keep(&sample.bytes);
+                let keys: Vec<_> = keys.iter().map(|key| format!("'{}'", key.escape_ascii())).collect();
                 let (answer, wanted) = (String::from_utf8_lossy(&answer), String::from_utf8_lossy(&wanted.text));
-                format!("{at} with {keys:?}\n--- answered\n{answer}--- not\n{wanted}---")
+                format!("{} with {}\n--- it prints\n{answer}--- not\n{wanted}---", keep(&sample.bytes), keys.join(" "))
             });
         }
     }

@@ -86,10 +86,26 @@ fn tag_words(text: &[u8]) -> Option<Words> {
     Some((0, tag))
 }
 
-/// Arguments that are no key of either kind. No bytes beyond ASCII but those of UTF-8 are among them.
-const BAD_KEYS: [&str; 16] = [
-    "", " ", "-", "+5", "-1", "0x5", " 5", "5 ", "5G", "ab cd", "12345678901234567", "00000000000000000", "A B", "\u{c4}B", "a\nb",
-    "ABCDEFGHIJKLM",
+/// Arguments that are bad for one kind or both; the last one is no text at all.
+const BAD_KEYS: [&[u8]; 18] = [
+    b"",
+    b" ",
+    b"-",
+    b"+5",
+    b"-1",
+    b"0x5",
+    b" 5",
+    b"5 ",
+    b"5G",
+    b"A B",
+    b"ab cd",
+    b"a\nb",
+    b"ABCDEFGHIJKLM",
+    b"12345678901234567",
+    b"00000000000000000",
+    b"000000000000000000000000000000000000000000000000000005",
+    "\u{c4}B".as_bytes(),
+    b"\xffB",
 ];
 
 /// Keys to give modcheck as arguments: most of what is worth asking as a user would type it, and some that are bad.
@@ -102,7 +118,7 @@ pub fn arguments(random: &mut Random, sample: &Sample) -> Vec<Vec<u8>> {
     }
     for _ in 0..random.below(3) {
         let at = random.below(keys.len() as u64 + 1) as usize;
-        keys.insert(at, random.pick(&BAD_KEYS).as_bytes().to_vec());
+        keys.insert(at, random.pick(&BAD_KEYS).to_vec());
     }
     keys
 }
@@ -123,6 +139,6 @@ fn typed(random: &mut Random, kind: u64, words: Words) -> Option<Vec<u8>> {
     while text.last() == Some(&b' ') && !random.chance(40) {
         text.pop();
     }
-    // an argument holds no byte 0, and only text
-    (!text.contains(&0) && text.is_ascii()).then_some(text)
+    // no argument holds a byte 0
+    (!text.contains(&0)).then_some(text)
 }

@@ -1,5 +1,6 @@
 //! Counts of answers and differences, and the lines that tell of them.
 
+use crate::addresses::fnv;
 use std::collections::BTreeMap;
 
 /// Differences that are printed one by one; more are only counted.
@@ -45,5 +46,17 @@ impl Tally {
         let parts: Vec<String> = self.answers.iter().map(|(answer, count)| format!("{answer} x {count}")).collect();
         println!("{}: {count} {}: {}: {} differences", self.name, self.asked, parts.join(", "), self.differences);
         self.differences
+    }
+}
+
+/// Keeps a module for which answers differ in a file, unless it is very long, and says where.
+pub fn keep(module: &[u8]) -> String {
+    if module.len() > 1 << 24 {
+        return format!("a module of {} bytes", module.len());
+    }
+    let path = std::env::temp_dir().join(format!("module-{:016x}", fnv(module)));
+    match std::fs::write(&path, module) {
+        Ok(()) => path.display().to_string(),
+        Err(error) => format!("a module of {} bytes, not kept ({error})", module.len()),
     }
 }

@@ -102,3 +102,8 @@ slice-made {N} {R} made numbers alone r cs at c answer e =
 
 pub err-not-ok : {d : Decline} → _≡_ {A = Result (Unit {0}) Decline} (Err d) (Ok tt) → ⊥
 err-not-ok e = let z : _≡_ {A = ℕ} 0 1 = cc in omega arith
+
+-- an answer without a decline
+pub ok-numbered : {X : Type 0} (r : Result X Decline) (x : X) → numbered r ≡ Ok x → isOk r ≡ true
+ok-numbered (Ok y) x e = refl
+ok-numbered (Err d) x e = let z : _≡_ {A = ℕ} 0 1 = cc in absurd (omega arith)
