@@ -1,11 +1,11 @@
+/* Checks the module on standard input and finds keys in it, by the calls of the static library. */
+
 /*
- * Checks the module on standard input and finds keys in it, by the calls of the static library.
- *
  * usage: firmware-example [FIRST SECOND]... < MODULE
  *
- * FIRST and SECOND are the two words of a key, in hexadecimal. The first line printed is `check N`, or `check N cell K` where a
- * cell is named; then comes `find FIRST SECOND` for each pair of words, with `cell K`, with `-` where there is no such key, or
- * with the number of a decline.
+ * FIRST and SECOND are the two words of a key, in hexadecimal. The first line printed is `check N`, or `check N cell K`
+ * where a cell is named. Then comes `find FIRST SECOND` for each pair of words, with `cell K`, with `-` where there is no
+ * such key, or with the number of a decline.
  */
 #include "firmware.h"
 

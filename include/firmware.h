@@ -26,8 +26,8 @@ extern "C" {
 uint64_t module_check(const uint8_t *bytes, size_t length);
 
 /*
- * Finds a key in a module by its two key words: the first eight and the last four bytes of a plate that is padded with blanks
- * to twelve, as big-endian numbers, or 0 and the tag. Any two words may be given.
+ * Finds a key in a module by its two key words: the first eight and the last four bytes of a plate that is padded with
+ * blanks to twelve, as big-endian numbers, or 0 and the tag. Any two words may be given.
  *
  * The answer is 256 times (the number of the key's cell + 1), 0 if the key is not there, or 14 if the trailer is unlawful.
  * Nothing but a lawful trailer is asked of the module: a cell with unlawful bytes counts as empty.

@@ -45,10 +45,10 @@ fn spoil(random: &mut Random, module: &mut Module) {
             }
             3 => cell[14] = random.pick(&[0, 10, 16, 255]),
             4 if kind == 1 => cell[2..14].copy_from_slice(&[b' '; 12]),
-            4 | 5 if kind == 1 => {
-                // a character that no plate has, a blank inside, or one behind blanks
+            5 if kind == 1 => {
+                // a blank inside, a character behind blanks, or one that no plate has
                 let at = 2 + random.below(12) as usize;
-                cell[at] = random.pick(b"  A9@[`az/:\0\x1f\x7f\xc1");
+                cell[at] = random.pick(b"      AAA999@[`az/:\0\x1f\x7f\xc1");
             }
             6 => cell = noise(random),
             7 => {

@@ -1,4 +1,4 @@
-//! Modules of both kinds, both families and many settings, filled with distinct keys that each lie in one of their own buckets.
+//! Modules of both kinds, both families and many settings, filled with distinct keys in their own buckets.
 
 use crate::addresses::{hash, plate_words, Layout, Size, MOST_BUCKETS};
 use crate::cells::{self, Record, Words, CELL};

@@ -11,7 +11,8 @@ use stores::store::Store;
 use stores::store::asked_cell;
 ghost use denote.Ref.{name, now};
 ghost use mathlib.Core.Path.{_≡_};
-ghost use Prim.Native.Nat.{ℕ};
+ghost use lib.ListN.{getD};
+ghost use Rattle.stores.specs.declared.cells.Cell.the-variants.{Empty};
 ghost use Rattle.stores.specs.Cells.{after, asked, numbered, readOf, writeOf};
 ghost use Rattle.stores.specs.Makings.{at-name, of-bytes};
 ghost use Rattle.octets.specs.Codec.{byteRow, bytesAfter, cellAt, cellBytes, cellsOf, coded, decoded, encoded, lawfulAt};
@@ -58,13 +59,24 @@ pub fn is_lawful<R: Coded>(bytes: &[u8], at: usize) -> bool
     decode::<R>(part).is_some()
 }
 
+// The named cell, empty at or past the end.
+pub fn cell_or_empty<R: Coded>(bytes: &[u8], at: u64) -> Cell<R>
+    ensures { λ r. ⌜ r ≡ getD (byteRow (decoded (R·Coded .kind) (R·Coded .end) (R·Coded .numbersIn) (R·Record .made)) (now (bytes .entry))) at Empty ⌝ }
+{
+    if at >= bytes_length(bytes) {
+        return Cell::Empty;
+    }
+    cell_at::<R>(bytes, at as usize)
+}
+
+// The named cell.
 pub fn bytes_read<R: Coded>(bytes: &[u8], at: u64) -> Result<Cell<R>, Decline>
     ensures { λ r. ⌜ numbered r ≡ readOf (byteRow (decoded (R·Coded .kind) (R·Coded .end) (R·Coded .numbersIn) (R·Record .made)) (now (bytes .entry))) at ⌝ }
 {
     if at >= bytes_length(bytes) {
         return Err(Decline::NoSuchCell);
     }
-    Ok(cell_at::<R>(bytes, at as usize))
+    Ok(cell_or_empty::<R>(bytes, at))
 }
 
 // Replaces the 32 bytes of the named cell, and no others.

@@ -1,6 +1,6 @@
 -- A key's own buckets, one choice at a time.
 use mathlib.Core.List.{List, [], _∷_, map}
-use mathlib.Core.Logic.{_⊎_, inl, inr}
+use mathlib.Core.Logic.{_⊎_, inl, inr, ⊎-elim}
 use mathlib.Core.Path.{_≡_, refl, sym, ap, subst, _∙_}
 use native.Mathlib.Omega.{arith}
 use Prim.Native.Nat.{ℕ, zero, suc, _+_, _*_, _/_, _%_, _^_, _≤_, _<_}
@@ -47,3 +47,12 @@ own-buckets-lie-below hash z w p h =
     let e = r .2 in
     let c = choices-lie-below z (choiceOf (hash w) (r .0)) (mod-below (hash w / 2 ^ 32 + r .0 * (hash w % 2 ^ 32)) (2 ^ 32) (omega arith)) in
     omega arith
+
+-- a number is in a list or not
+pub in-or-not : (p : ℕ) (xs : List ℕ) → In p xs ⊎ (In p xs → ⊥)
+in-or-not p [] = inr (λ h. h)
+in-or-not p (x ∷ xs) =
+    elim (cases-eq p x) [
+      | inl e ↦ inl (inl e)
+      | inr ne ↦ elim (in-or-not p xs) [ inl h ↦ inl (inr h) | inr n ↦ inr (⊎-elim ne n) ]
+    ]

@@ -3,10 +3,9 @@ use mathlib.Core.Path.{_≡_, sym, ap, _∙_}
 use Prim.Native.Nat.{_≤_, _<_}
 use lib.ListN.{length}
 use Rattle.std.specs.declared.result.Result.the-variants.{Ok}
-use Rattle.stores.specs.declared.cells.Cell.the-variants.{Empty}
 use Rattle.stores.proofs.Rows.{read-in, read-out}
-use Rattle.octets.specs.Codec.{byteRow, cellsOf, decoded}
-use Rattle.octets.proofs.Frames.{row-length, row-get}
+use Rattle.octets.specs.Codec.{byteRow, decoded}
+use Rattle.octets.proofs.Frames.{row-length}
 use Rattle.octets.proofs.store.bytes_read.Needs as need
 
 pub returns-then-at-bytes-length : need.returns-then-at-bytes-length
@@ -20,9 +19,7 @@ returns-then-at-bytes-length g c =
 pub returns : need.returns
 returns g c =
     let D = decoded (g .R·Coded .kind) (g .R·Coded .end) (g .R·Coded .numbersIn) (g .R·Record .made) in
-    let bs = c .args .bytes .now in
-    let xs = byteRow D bs in
-    let e = row-length D bs in
+    let xs = byteRow D (c .args .bytes .now) in
+    let e = row-length D (c .args .bytes .now) in
     let h : c .args .at < length xs = omega arith in
-    let k : c .args .at < cellsOf bs = omega arith in
-    ap (λ o. Ok o) (c .cell-at .ensures ∙ sym (row-get D bs (c .args .at) Empty k)) ∙ sym (read-in xs (c .args .at) h)
+    ap (λ o. Ok o) (c .cell-or-empty .ensures) ∙ sym (read-in xs (c .args .at) h)

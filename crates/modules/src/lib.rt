@@ -1,0 +1,4 @@
+// Modules: find, check, open and close.
+pub mod checks;
+pub mod faults;
+pub mod finds;
