@@ -1,2 +1,3 @@
 pub mod Seeks
 pub mod Faulty
+pub mod Whole

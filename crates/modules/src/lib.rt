@@ -1,4 +1,5 @@
 // Modules: find, check, open and close.
+pub mod calls;
 pub mod checks;
 pub mod faults;
 pub mod finds;
