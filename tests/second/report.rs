@@ -87,7 +87,7 @@ fn tag_words(text: &[u8]) -> Option<Words> {
 }
 
 /// Arguments that are bad for one kind or both; the last one is no text at all.
-const BAD_KEYS: [&[u8]; 18] = [
+const BAD_KEYS: [&[u8]; 17] = [
     b"",
     b" ",
     b"-",
@@ -105,7 +105,6 @@ const BAD_KEYS: [&[u8]; 18] = [
     b"00000000000000000",
     b"000000000000000000000000000000000000000000000000000005",
     "\u{c4}B".as_bytes(),
-    b"\xffB",
 ];
 
 /// Keys to give modcheck as arguments: most of what is worth asking as a user would type it, and some that are bad.
@@ -139,6 +138,6 @@ fn typed(random: &mut Random, kind: u64, words: Words) -> Option<Vec<u8>> {
     while text.last() == Some(&b' ') && !random.chance(40) {
         text.pop();
     }
-    // no argument holds a byte 0
-    (!text.contains(&0)).then_some(text)
+    // an argument holds no byte 0, and modcheck takes text only
+    (!text.contains(&0) && text.is_ascii()).then_some(text)
 }
