@@ -1,2 +1,3 @@
 pub mod Trailers
 pub mod Layouts
+pub mod Closing

@@ -1,3 +1,4 @@
-// The trailer of a module: its rules, and the window through which it is read.
+// The trailer of a module: its rules, the window through which it is read, and the close that writes it.
+pub mod closing;
 pub mod layouts;
 pub mod windows;
