@@ -1,3 +1,4 @@
 pub mod Seeks
 pub mod Faulty
 pub mod Whole
+pub mod Ones

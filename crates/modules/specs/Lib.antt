@@ -1,3 +1,4 @@
 pub mod Finds
 pub mod Checks
 pub mod Modules
+pub mod Laws

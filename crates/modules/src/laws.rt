@@ -1,0 +1,20 @@
+// What the relations of check and find allow: each function's contract is a theorem.
+ghost use Rattle.modules.specs.Laws.{Check-has-one-answer, Find-has-one-answer, Find-cell-has-one-answer};
+
+pub fn check_has_one_answer() -> u8
+    ensures { λ _. ⌜ Check-has-one-answer ⌝ }
+{
+    0
+}
+
+pub fn find_cell_has_one_answer() -> u8
+    ensures { λ _. ⌜ Find-cell-has-one-answer ⌝ }
+{
+    0
+}
+
+pub fn find_has_one_answer<R>() -> u8
+    ensures { λ _. ⌜ Find-has-one-answer R ⌝ }
+{
+    0
+}
