@@ -13,10 +13,13 @@ use Rattle.std.specs.declared.result.Result.{Result}
 use Rattle.std.specs.declared.result.Result.the-variants.{Ok, Err}
 use Rattle.records.specs.declared.declines.Decline.{Decline}
 use Rattle.records.specs.declared.numbers.Words.{Words}
+use Rattle.records.specs.declared.plates.Plate.{Plate}
 use Rattle.records.specs.Declines.{number}
+use Rattle.records.specs.Kinds.{plateWords, tagWords}
 use Rattle.records.proofs.Taken.{same-decline}
 use Rattle.stores.specs.declared.cells.Cell.{Cell}
 use Rattle.stores.specs.declared.cells.Cell.the-variants.{Empty, Holds}
+use Rattle.octets.specs.Codec.{lawfulAt}
 use Rattle.rules.specs.Rows.{Row, First}
 use Rattle.rules.specs.Tables.{State, usedIn}
 use Rattle.trailers.specs.declared.layouts.Layout.{Layout}
@@ -26,7 +29,7 @@ use Rattle.trailers.proofs.Decided.{lawful-or-not, layout-of}
 use Rattle.modules.specs.declared.faults.Fault.{Fault}
 use Rattle.modules.specs.Checks.{AllFine, Named, Checks, faults}
 use Rattle.modules.specs.Finds.{FirstIn, FirstMatch, Meets, NoMatch}
-use Rattle.modules.specs.Modules.{NoTrailer, DeclinedWith, ModuleChecks, FindsCell, FindsRecord, CellIs, RecordIs}
+use Rattle.modules.specs.Modules.{cellsPart, hashBy, inModule, tareDecoded, tagDecoded, wordsOfTare, wordsOfTag, NoTrailer, DeclinedWith, ModuleChecks, FindsCell, FindsRecord, CellIs, RecordIs}
 use Rattle.modules.specs.Laws.{Check-has-one-answer, Find-has-one-answer, Find-cell-has-one-answer}
 
 one-first : (rows : List Row) (n m : ℕ) → First rows n → First rows m → n ≡ m
@@ -88,8 +91,8 @@ check-has-one-answer bs r q h g =
           let l = layout-of bs lawful in
           let k : l .0 .kind ≡ numbersIn bs .kind = ap (λ n. n .kind) (l .1) in
           elim (kind-of bs lawful) [
-            | inl one ↦ one-check _ _ _ _ _ r q (h .tares lawful (l .0) (l .1) (k ∙ one)) (g .tares lawful (l .0) (l .1) (k ∙ one))
-            | inr two ↦ one-check _ _ _ _ _ r q (h .tags lawful (l .0) (l .1) (k ∙ two)) (g .tags lawful (l .0) (l .1) (k ∙ two))
+            | inl one ↦ one-check {K = Plate} (lawfulAt tareDecoded (cellsPart bs)) (λ x. x .plate) plateWords (hashBy (l .0 .family)) (inModule tareDecoded (l .0) bs) r q (h .tares lawful (l .0) (l .1) (k ∙ one)) (g .tares lawful (l .0) (l .1) (k ∙ one))
+            | inr two ↦ one-check {K = ℕ} (lawfulAt tagDecoded (cellsPart bs)) (λ x. x .tag) tagWords (hashBy (l .0 .family)) (inModule tagDecoded (l .0) bs) r q (h .tags lawful (l .0) (l .1) (k ∙ two)) (g .tags lawful (l .0) (l .1) (k ∙ two))
           ]
     ]
 
@@ -135,8 +138,8 @@ find-cell-has-one-answer bs w r q h g =
           let l = layout-of bs lawful in
           let k : l .0 .kind ≡ numbersIn bs .kind = ap (λ n. n .kind) (l .1) in
           elim (kind-of bs lawful) [
-            | inl one ↦ one-cell _ _ bs w (l .0) r q (h .tares lawful (l .0) (l .1) (k ∙ one)) (g .tares lawful (l .0) (l .1) (k ∙ one))
-            | inr two ↦ one-cell _ _ bs w (l .0) r q (h .tags lawful (l .0) (l .1) (k ∙ two)) (g .tags lawful (l .0) (l .1) (k ∙ two))
+            | inl one ↦ one-cell tareDecoded wordsOfTare bs w (l .0) r q (h .tares lawful (l .0) (l .1) (k ∙ one)) (g .tares lawful (l .0) (l .1) (k ∙ one))
+            | inr two ↦ one-cell tagDecoded wordsOfTag bs w (l .0) r q (h .tags lawful (l .0) (l .1) (k ∙ two)) (g .tags lawful (l .0) (l .1) (k ∙ two))
           ]
     ]
 

@@ -2,3 +2,4 @@ pub mod Finds
 pub mod Checks
 pub mod Modules
 pub mod Laws
+pub mod Parts

@@ -1,6 +1,8 @@
-// Modules: find, check, open and close.
+// Modules: find, check, open and the cells of a new module.
 pub mod calls;
 pub mod checks;
 pub mod faults;
 pub mod finds;
 pub mod laws;
+
+pub mod parts;
