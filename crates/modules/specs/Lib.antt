@@ -3,3 +3,4 @@ pub mod Checks
 pub mod Modules
 pub mod Laws
 pub mod Parts
+pub mod Opens

@@ -4,5 +4,5 @@ pub mod checks;
 pub mod faults;
 pub mod finds;
 pub mod laws;
-
+pub mod opens;
 pub mod parts;

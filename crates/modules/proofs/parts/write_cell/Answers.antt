@@ -1,18 +1,14 @@
 use native.Mathlib.Omega.{arith}
-use mathlib.Core.Path.{_≡_, sym, ap, _∙_}
-use mathlib.Core.List.{List, _++_}
-use Prim.Native.Nat.{ℕ, _+_, _-_, _≤_}
+use mathlib.Core.Path.{_≡_, ap, _∙_}
+use mathlib.Core.List.{_++_}
+use Prim.Native.Nat.{_+_, _-_, _≤_}
 use lib.ListN.{length, take, drop}
 use Rattle.std.proofs.shelf.Lists.{drop-drop}
-use Rattle.std.proofs.shelf.Tests.{le-leb}
 use Rattle.stores.specs.Cells.{asked, writeOf}
 use Rattle.octets.specs.Codec.{byteRow, bytesAfter, decoded, encoded}
-use Rattle.modules.specs.declared.parts.Part.{Part}
 use Rattle.modules.specs.Parts.{partOf}
+use Rattle.modules.proofs.Opening.{part-is}
 use Rattle.modules.proofs.parts.write_cell.Needs as need
-
-part-is : (bs : List ℕ) (p : Part) → p .start ≤ p .end → p .end ≤ length bs → take (p .end - p .start) (drop (p .start) bs) ≡ partOf bs p
-part-is bs p a b = sym (rw (le-leb (p .start) (p .end) a, le-leb (p .end) (length bs) b))
 
 pub returns : need.returns
 returns g c =
