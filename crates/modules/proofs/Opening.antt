@@ -11,7 +11,9 @@ use Rattle.std.specs.declared.result.Result.{Result}
 use Rattle.std.specs.declared.result.Result.the-variants.{Ok, Err}
 use Rattle.records.specs.declared.numbers.Words.{Words}
 use Rattle.octets.specs.Codec.{byteRow, lawfulAt}
+use Rattle.addresses.proofs.Steps.{same-settings, same-size}
 use Rattle.trailers.specs.declared.layouts.Layout.{Layout}
+use Rattle.trailers.specs.Closing.{closing}
 use Rattle.trailers.specs.Layouts.{numbersOf}
 use Rattle.trailers.specs.Trailers.{LawfulTrailer, numbersIn}
 use Rattle.trailers.proofs.Decided.{lawful-or-not, layout-of}
@@ -20,9 +22,10 @@ use Rattle.modules.specs.declared.opens.Opened.{Opened}
 use Rattle.modules.specs.declared.parts.Part.{Part}
 use Rattle.modules.specs.Checks.{Checks, tableOf}
 use Rattle.modules.specs.Modules.{cellsPart, inModule}
+use Rattle.modules.specs.Laws.{What-was-closed-opens}
 use Rattle.modules.specs.Opens.{Names, FirstOpens, OpensSound, IsOpened}
 use Rattle.modules.specs.Parts.{partOf}
-use Rattle.modules.proofs.Whole.{for-layout, accepts, reaches}
+use Rattle.modules.proofs.Whole.{for-layout, accepts, reaches, part-length}
 use Rattle.modules.proofs.Ones.{one-check}
 
 pub part-is : (bs : List ℕ) (p : Part) → p .start ≤ p .end → p .end ≤ length bs → take (p .end - p .start) (drop (p .start) bs) ≡ partOf bs p
@@ -81,3 +84,15 @@ pub is-opened : (bs : List ℕ) (o : Opened) (m : Layout) → LawfulTrailer bs �
   (l : Layout) → numbersOf l ≡ numbersIn bs → IsOpened bs o l
 is-opened bs o m lawful e size count end start l g =
     for-layout (λ l. IsOpened bs o l) m l (numbersIn bs) e g (record { size = size; count = count; part = opened-part bs m (o .part) lawful e end start })
+
+pub what-was-closed-opens : {R K : Type 0} → What-was-closed-opens R K
+what-was-closed-opens D k f key words hash bs cs n o closed second =
+    let lawful = closed .1 in
+    let l = layout-of cs lawful in
+    let e : numbersOf (l .0) ≡ closing n = l .1 ∙ closed .2 in
+    let s =
+    same-settings {s = l .0 .size .settings} {u = n .size .settings} (ap (λ m. m .t) e) (ap (λ m. m .cells) e) (ap (λ m. m .choices) e) (ap (λ m. m .start) e) (ap (λ m. m .load) e) in
+    let z = same-size {z = l .0 .size} {y = n .size} s (ap (λ m. m .x) e) (ap (λ m. m .j) e) in
+    (lawful, λ first.
+      let open′ = second .accepted first (l .0) (l .1) in
+      (open′ .size ∙ z, open′ .count ∙ ap (λ m. m .count) e, ap length (open′ .part) ∙ part-length cs lawful ∙ ap (λ m. m .distance) (closed .2)))

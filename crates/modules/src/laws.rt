@@ -1,5 +1,5 @@
-// What the relations of check and find allow: each function's contract is a theorem.
-ghost use Rattle.modules.specs.Laws.{Check-has-one-answer, Find-has-one-answer, Find-cell-has-one-answer};
+// What holds of modules: each function's contract is a theorem.
+ghost use Rattle.modules.specs.Laws.{Check-has-one-answer, Find-cell-has-one-answer, Find-has-one-answer, What-was-closed-opens};
 
 pub fn check_has_one_answer() -> u8
     ensures { λ _. ⌜ Check-has-one-answer ⌝ }
@@ -15,6 +15,12 @@ pub fn find_cell_has_one_answer() -> u8
 
 pub fn find_has_one_answer<R>() -> u8
     ensures { λ _. ⌜ Find-has-one-answer R ⌝ }
+{
+    0
+}
+
+pub fn what_was_closed_opens<R, K>() -> u8
+    ensures { λ _. ⌜ What-was-closed-opens R K ⌝ }
 {
     0
 }
