@@ -113,4 +113,4 @@ module _ {R K : Type 0} (law : ℕ → Bool) (key : R → K) (words : K → Word
   never some below none =
       fine law key words hash s k l placed
       (none-alone law key words hash s k r h some below
-        (subst (λ v. NoMatch (Match (λ x. words (key x)) (s .cells) v k) (choiceAt hash (s .size) v) (s .size .settings .choices) (s .size .settings .cells)) is none))
+      (subst (λ v. NoMatch (Match (λ x. words (key x)) (s .cells) v k) (choiceAt hash (s .size) v) (s .size .settings .choices) (s .size .settings .cells)) is none))

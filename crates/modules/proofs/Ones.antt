@@ -63,7 +63,7 @@ same-fault : (f g : Fault) → number (f .decline) ≡ number (g .decline) → f
 same-fault f g n c = let d = same-decline (f .decline) (g .decline) n in λ i. record { decline = d i; cell = c i }
 
 pub one-check : {R K : Type 0} (law : ℕ → Bool) (key : R → K) (words : K → Words) (hash : Words → ℕ) (s : State R) (r q : Result (Unit {0}) Fault) →
-  Checks law key words hash s r → Checks law key words hash s q → r ≡ q
+    Checks law key words hash s r → Checks law key words hash s q → r ≡ q
 one-check law key words hash s (Ok u) (Ok v) h g = refl
 one-check law key words hash s (Ok u) (Err f) h g = absurd (none-accepted law key words hash s (f .cell) (number (f .decline)) u h g)
 one-check law key words hash s (Err f) (Ok v) h g = absurd (none-accepted law key words hash s (f .cell) (number (f .decline)) v g h)

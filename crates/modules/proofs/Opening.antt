@@ -62,10 +62,11 @@ module _ {R K : Type 0} (D : List ℕ → Option R) (k f : ℕ) (key : R → K) 
   first-opens part m r names e q h =
       let every : (l : Layout) → numbersOf l ≡ numbersIn bs → Checks (lawfulAt D (cellsPart bs)) key words hash (inModule D l bs) r =
       λ l g.
-        for-layout (λ l. Checks (lawfulAt D (cellsPart bs)) key words hash (inModule D l bs) r) m l (numbersIn bs) e g
-        (subst (λ p. Checks (lawfulAt D p) key words hash (tableOf (m .size) (m .count) (byteRow D p)) r) q h) in
-      (record { trailer = λ not. absurd (not names); cells = λ _ l g. every l g },
-       λ ok l g. accepts (lawfulAt D (cellsPart bs)) key words hash (inModule D l bs) r (reaches D bs l (names .lawful) g) ok (every l g))
+      for-layout (λ l. Checks (lawfulAt D (cellsPart bs)) key words hash (inModule D l bs) r) m l (numbersIn bs) e g
+      (subst (λ p. Checks (lawfulAt D p) key words hash (tableOf (m .size) (m .count) (byteRow D p)) r) q h) in (
+        record { trailer = λ not. absurd (not names); cells = λ _ l g. every l g },
+        λ ok l g. accepts (lawfulAt D (cellsPart bs)) key words hash (inModule D l bs) r (reaches D bs l (names .lawful) g) ok (every l g),
+      )
 
   -- a decline is no acceptance
   pub not-both : (e : Fault) → FirstOpens D k f key words hash bs (Err e) → FirstOpens D k f key words hash bs (Ok tt) → ⊥
@@ -81,7 +82,7 @@ module _ {R K : Type 0} (D : List ℕ → Option R) (k f : ℕ) (key : R → K) 
 
 -- what the second call gives, where the trailer is lawful
 pub is-opened : (bs : List ℕ) (o : Opened) (m : Layout) → LawfulTrailer bs → numbersOf m ≡ numbersIn bs → o .size ≡ m .size → o .count ≡ m .count → o .part .end ≡ length bs - 32 → o .part .start ≡ length bs - 32 - m .distance →
-  (l : Layout) → numbersOf l ≡ numbersIn bs → IsOpened bs o l
+    (l : Layout) → numbersOf l ≡ numbersIn bs → IsOpened bs o l
 is-opened bs o m lawful e size count end start l g =
     for-layout (λ l. IsOpened bs o l) m l (numbersIn bs) e g (record { size = size; count = count; part = opened-part bs m (o .part) lawful e end start })
 
@@ -92,7 +93,9 @@ what-was-closed-opens D k f key words hash bs cs n o closed second =
     let e : numbersOf (l .0) ≡ closing n = l .1 ∙ closed .2 in
     let s =
     same-settings {s = l .0 .size .settings} {u = n .size .settings} (ap (λ m. m .t) e) (ap (λ m. m .cells) e) (ap (λ m. m .choices) e) (ap (λ m. m .start) e) (ap (λ m. m .load) e) in
-    let z = same-size {z = l .0 .size} {y = n .size} s (ap (λ m. m .x) e) (ap (λ m. m .j) e) in
-    (lawful, λ first.
-      let open′ = second .accepted first (l .0) (l .1) in
-      (open′ .size ∙ z, open′ .count ∙ ap (λ m. m .count) e, ap length (open′ .part) ∙ part-length cs lawful ∙ ap (λ m. m .distance) (closed .2)))
+    let z = same-size {z = l .0 .size} {y = n .size} s (ap (λ m. m .x) e) (ap (λ m. m .j) e) in (
+      lawful,
+      λ first.
+          let open′ = second .accepted first (l .0) (l .1) in
+          (open′ .size ∙ z, open′ .count ∙ ap (λ m. m .count) e, ap length (open′ .part) ∙ part-length cs lawful ∙ ap (λ m. m .distance) (closed .2)),
+    )

@@ -50,11 +50,11 @@ accepted law key words hash s reach h = record {
   reach = reach;
   home = λ c r at. home-of law key words hash s c (h .0 c (at .used)) r at;
   once = λ b c q r at bt e.
-    ⊎-elim (λ (z : b ≡ c). z)
-    (⊎-elim
+      ⊎-elim (λ (z : b ≡ c). z)
+      (⊎-elim
       (λ (z : b < c). absurd (alone-of law key words hash s c (h .0 c (bt .used)) (r, bt, (b, q, z, at, e))))
       (λ (z : c < b). absurd (alone-of law key words hash s b (h .0 b (at .used)) (q, at, (c, r, z, bt, sym e)))))
-    (cases-order b c);
+      (cases-order b c);
   counted = h .1;
 }
 
@@ -116,23 +116,25 @@ module _ (bs part : List ℕ) (m : Layout) (r : Result (Unit {0}) Fault) (lawful
       lawful = lawful;
       tares = λ l f _. each-sound tareDecoded (λ r. r .plate) plateWords h k l f;
       tags = λ l f two. absurd (two-not-one l (numbersIn bs) m e f one two);
-    })
+    },
+  )
 
   pub tags-checked :
       (m .kind ≡ 1 → ⊥) → Checks (lawfulAt tagDecoded part) (λ r. r .tag) tagWords (hashBy (m .family)) (tableOf (m .size) (m .count) (byteRow tagDecoded part)) r →
       ModuleChecks bs r × (r ≡ Ok tt → ModuleIsSound bs)
   tags-checked other h =
       let not-one : (l : Layout) → numbersOf l ≡ numbersIn bs → l .kind ≡ 1 → ⊥ = λ l f one. other (ap (λ n. n .kind) (e ∙ sym f) ∙ one) in (
-    record {
-      trailer = λ not. absurd (not lawful);
-      tares = λ _ l f one. absurd (not-one l f one);
-      tags = λ _ l f _. every tagDecoded (λ r. r .tag) tagWords h l f;
-    },
-    λ k. record {
-      lawful = lawful;
-      tares = λ l f one. absurd (not-one l f one);
-      tags = λ l f _. each-sound tagDecoded (λ r. r .tag) tagWords h k l f;
-    })
+        record {
+          trailer = λ not. absurd (not lawful);
+          tares = λ _ l f one. absurd (not-one l f one);
+          tags = λ _ l f _. every tagDecoded (λ r. r .tag) tagWords h l f;
+        },
+        λ k. record {
+          lawful = lawful;
+          tares = λ l f one. absurd (not-one l f one);
+          tags = λ l f _. each-sound tagDecoded (λ r. r .tag) tagWords h k l f;
+        },
+      )
 
 -- what the search of the cells says of a module
 module _ (bs part : List ℕ) (m : Layout) (w : Words) (lawful : LawfulTrailer bs) (e : numbersOf m ≡ numbersIn bs) (q : part ≡ cellsPart bs) where

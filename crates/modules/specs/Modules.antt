@@ -66,9 +66,9 @@ NoTrailer (Err f) = (number (f .decline) ≡ 14) × (f .cell ≡ None)
 pub record ModuleChecks (bs : List ℕ) (r : Result (Unit {0}) Fault) : Type 0 where
   pub trailer : (LawfulTrailer bs → ⊥) → NoTrailer r
   pub tares : LawfulTrailer bs → (l : Layout) → numbersOf l ≡ numbersIn bs → l .kind ≡ 1 →
-    Checks (lawfulAt tareDecoded (cellsPart bs)) (λ r. r .plate) plateWords (hashBy (l .family)) (inModule tareDecoded l bs) r
+      Checks (lawfulAt tareDecoded (cellsPart bs)) (λ r. r .plate) plateWords (hashBy (l .family)) (inModule tareDecoded l bs) r
   pub tags : LawfulTrailer bs → (l : Layout) → numbersOf l ≡ numbersIn bs → l .kind ≡ 2 →
-    Checks (lawfulAt tagDecoded (cellsPart bs)) (λ r. r .tag) tagWords (hashBy (l .family)) (inModule tagDecoded l bs) r
+      Checks (lawfulAt tagDecoded (cellsPart bs)) (λ r. r .tag) tagWords (hashBy (l .family)) (inModule tagDecoded l bs) r
 
 -- The trailer is lawful, and the table that it names over the module's cells is sound.
 pub record ModuleIsSound (bs : List ℕ) : Type 0 where

@@ -64,14 +64,14 @@ module _ (bs ys : List ℕ) (at : ℕ) (fits : 32 * at + 32 ≤ length bs) (full
       let inside : at < length (byteRow D bs) = omega (arith, row-length D bs) in
       same-lists (byteRow D ps) (set (byteRow D bs) at v) (a ∙ sym (length-set (byteRow D bs) at v))
       (λ k d h.
-        let kb : k < cellsOf bs = omega (arith, a, h, row-length D bs) in
-        let kp : k < cellsOf ps = omega (arith, h, row-length D ps) in
-        row-get D ps k d kp
-        ∙ ⊎-elim (λ (z : k ≡ at). ap (λ j. cellAt D ps j) z ∙ ap (λ c. inCell (D c)) here ∙ sym (ap (λ j. getD (set (byteRow D bs) at v) j d) z ∙ getD-set-same (byteRow D bs) at v d inside))
-          (⊎-elim
-            (λ (z : k < at). let ne : k ≢ at = omega (arith, z) in ap (λ c. inCell (D c)) (before k z) ∙ sym (getD-set-other (byteRow D bs) at k v d ne ∙ row-get D bs k d kb))
-            (λ (z : at < k). let ne : k ≢ at = omega (arith, z) in ap (λ c. inCell (D c)) (behind k z) ∙ sym (getD-set-other (byteRow D bs) at k v d ne ∙ row-get D bs k d kb)))
-          (cases-order k at))
+      let kb : k < cellsOf bs = omega (arith, a, h, row-length D bs) in
+      let kp : k < cellsOf ps = omega (arith, h, row-length D ps) in
+      row-get D ps k d kp
+      ∙ ⊎-elim (λ (z : k ≡ at). ap (λ j. cellAt D ps j) z ∙ ap (λ c. inCell (D c)) here ∙ sym (ap (λ j. getD (set (byteRow D bs) at v) j d) z ∙ getD-set-same (byteRow D bs) at v d inside))
+      (⊎-elim
+      (λ (z : k < at). let ne : k ≢ at = omega (arith, z) in ap (λ c. inCell (D c)) (before k z) ∙ sym (getD-set-other (byteRow D bs) at k v d ne ∙ row-get D bs k d kb))
+      (λ (z : at < k). let ne : k ≢ at = omega (arith, z) in ap (λ c. inCell (D c)) (behind k z) ∙ sym (getD-set-other (byteRow D bs) at k v d ne ∙ row-get D bs k d kb)))
+      (cases-order k at))
 
 module _ {R : Type 0} (E : R → List ℕ) where
   -- the bytes after a write that is taken
@@ -94,11 +94,11 @@ module _ {R : Type 0} (E : R → List ℕ) where
     bytes-others D (Err d) r bs at k a h = refl
     bytes-others D (Ok v) r bs at k a h =
         ⊎-elim (λ (lt : at < cellsOf bs).
-          let n = row-length D bs in
-          let inside : at < length (byteRow D bs) = omega arith in
-          let ok = ok-numbered r tt (a ∙ write-in v (byteRow D bs) at inside) in
-          let ne : k ≡ at → ⊥ = λ e. both-ways (isOk r) (h e) ok in
-          ap (λ zs. cellBytes zs k) (sym (raw-in v bs at lt)) ∙ others bs (coded E v) at (omega arith) (coded-length v) k ne)
+        let n = row-length D bs in
+        let inside : at < length (byteRow D bs) = omega arith in
+        let ok = ok-numbered r tt (a ∙ write-in v (byteRow D bs) at inside) in
+        let ne : k ≡ at → ⊥ = λ e. both-ways (isOk r) (h e) ok in
+        ap (λ zs. cellBytes zs k) (sym (raw-in v bs at lt)) ∙ others bs (coded E v) at (omega arith) (coded-length v) k ne)
         (λ (ge : cellsOf bs ≤ at). ap (λ zs. cellBytes zs k) (sym (raw-out v bs at ge)))
         (cases-lt at (cellsOf bs))
 

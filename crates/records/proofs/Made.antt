@@ -27,18 +27,21 @@ use Rattle.records.proofs.Taken.{same-decline}
 pub tag-again : (r : TagRecord) → madeTag (tagNumbers r) ≡ Ok r
 unfolding madeTag tagIf
 tag-again r =
-    elim (decLe 1 (r .grain)) as (λ d. tagIf (tagNumbers r) d (decLe (r .grain) 9) ≡ Ok r)
-    [ yes p ↦ elim (decLe (r .grain) 9) as (λ e. tagIf (tagNumbers r) (yes p) e ≡ Ok r)
-      [ yes q ↦ λ i. Ok (record { tag = r .tag; grower = r .grower; grain = r .grain; low = le-prop p (r .low) i; high = le-prop q (r .high) i })
-      | no q ↦ absurd (q (r .high)) ]
-    | no p ↦ absurd (p (r .low)) ]
+    elim (decLe 1 (r .grain)) as (λ d. tagIf (tagNumbers r) d (decLe (r .grain) 9) ≡ Ok r) [
+      | yes p ↦ elim (decLe (r .grain) 9) as (λ e. tagIf (tagNumbers r) (yes p) e ≡ Ok r) [
+        | yes q ↦ λ i. Ok (record { tag = r .tag; grower = r .grower; grain = r .grain; low = le-prop p (r .low) i; high = le-prop q (r .high) i })
+        | no q ↦ absurd (q (r .high))
+      ]
+      | no p ↦ absurd (p (r .low))
+    ]
 
 tag-declined : (n : TagNumbers) → ((1 ≤ n .grain) × (n .grain ≤ 9) → ⊥) → madeTag n ≡ Err OutOfRange
 unfolding madeTag tagIf
 tag-declined n h =
-    elim (decLe 1 (n .grain)) as (λ d. tagIf n d (decLe (n .grain) 9) ≡ Err OutOfRange)
-    [ yes p ↦ elim (decLe (n .grain) 9) as (λ e. tagIf n (yes p) e ≡ Err OutOfRange) [ yes q ↦ absurd (h (p, q)) | no q ↦ refl ]
-    | no p ↦ refl ]
+    elim (decLe 1 (n .grain)) as (λ d. tagIf n d (decLe (n .grain) 9) ≡ Err OutOfRange) [
+      | yes p ↦ elim (decLe (n .grain) 9) as (λ e. tagIf n (yes p) e ≡ Err OutOfRange) [ yes q ↦ absurd (h (p, q)) | no q ↦ refl ]
+      | no p ↦ refl
+    ]
 
 pub tag-made :
     (n : TagNumbers) (r : Result TagRecord Decline) →
@@ -60,7 +63,7 @@ same-plate {p} {q} a b = λ i. record {
 
 -- with a plate in hand
 tare-with : (n : TareNumbers) (p : Plate) → p .first ≡ n .first → p .second ≡ n .second →
-  madeTare n ≡ tareIf p (n .tare) (n .day) (decLe 1 (n .tare)) (decLe (n .tare) 100000)
+    madeTare n ≡ tareIf p (n .tare) (n .day) (decLe 1 (n .tare)) (decLe (n .tare) 100000)
 unfolding madeTare platedIf
 tare-with n p a b = go (isPlate (n .first) (n .second)) refl
   where
@@ -71,11 +74,13 @@ tare-with n p a b = go (isPlate (n .first) (n .second)) refl
 tare-is : (r : TareRecord) → tareIf (r .plate) (r .tare) (r .day) (decLe 1 (r .tare)) (decLe (r .tare) 100000) ≡ Ok r
 unfolding tareIf
 tare-is r =
-    elim (decLe 1 (r .tare)) as (λ d. tareIf (r .plate) (r .tare) (r .day) d (decLe (r .tare) 100000) ≡ Ok r)
-    [ yes p ↦ elim (decLe (r .tare) 100000) as (λ e. tareIf (r .plate) (r .tare) (r .day) (yes p) e ≡ Ok r)
-      [ yes q ↦ λ i. Ok (record { plate = r .plate; tare = r .tare; day = r .day; low = le-prop p (r .low) i; high = le-prop q (r .high) i })
-      | no q ↦ absurd (q (r .high)) ]
-    | no p ↦ absurd (p (r .low)) ]
+    elim (decLe 1 (r .tare)) as (λ d. tareIf (r .plate) (r .tare) (r .day) d (decLe (r .tare) 100000) ≡ Ok r) [
+      | yes p ↦ elim (decLe (r .tare) 100000) as (λ e. tareIf (r .plate) (r .tare) (r .day) (yes p) e ≡ Ok r) [
+        | yes q ↦ λ i. Ok (record { plate = r .plate; tare = r .tare; day = r .day; low = le-prop p (r .low) i; high = le-prop q (r .high) i })
+        | no q ↦ absurd (q (r .high))
+      ]
+      | no p ↦ absurd (p (r .low))
+    ]
 
 pub tare-again : (r : TareRecord) → madeTare (tareNumbers r) ≡ Ok r
 tare-again r = tare-with (tareNumbers r) (r .plate) refl refl ∙ tare-is r
@@ -83,9 +88,10 @@ tare-again r = tare-with (tareNumbers r) (r .plate) refl refl ∙ tare-is r
 tare-declined : (p : Plate) (t d : ℕ) → ((1 ≤ t) × (t ≤ 100000) → ⊥) → tareIf p t d (decLe 1 t) (decLe t 100000) ≡ Err OutOfRange
 unfolding tareIf
 tare-declined p t d h =
-    elim (decLe 1 t) as (λ e. tareIf p t d e (decLe t 100000) ≡ Err OutOfRange)
-    [ yes l ↦ elim (decLe t 100000) as (λ e. tareIf p t d (yes l) e ≡ Err OutOfRange) [ yes q ↦ absurd (h (l, q)) | no q ↦ refl ]
-    | no l ↦ refl ]
+    elim (decLe 1 t) as (λ e. tareIf p t d e (decLe t 100000) ≡ Err OutOfRange) [
+      | yes l ↦ elim (decLe t 100000) as (λ e. tareIf p t d (yes l) e ≡ Err OutOfRange) [ yes q ↦ absurd (h (l, q)) | no q ↦ refl ]
+      | no l ↦ refl
+    ]
 
 pub tare-made :
     (n : TareNumbers) (p : Plate) → p .first ≡ n .first → p .second ≡ n .second → (r : Result TareRecord Decline) →

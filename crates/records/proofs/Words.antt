@@ -38,7 +38,6 @@ word8-bytes x h =
     let z : x ≡ (x / 256) * 256 + x % 256 = omega arith in
     omega arith
 
-
 pub bytes2-word : (a b : ℕ) → a < 256 → b < 256 → bytes2 (word2 (a ∷ b ∷ []) 0) ≡ a ∷ b ∷ []
 bytes2-word a b p q =
     let w = word2 (a ∷ b ∷ []) 0 in
@@ -56,7 +55,7 @@ bytes4-word a b c d p q r s =
     cc
 
 pub bytes8-word : (a b c d e f g h : ℕ) → a < 256 → b < 256 → c < 256 → d < 256 → e < 256 → f < 256 → g < 256 → h < 256 →
-  bytes8 (word8 (a ∷ b ∷ c ∷ d ∷ e ∷ f ∷ g ∷ h ∷ []) 0) ≡ a ∷ b ∷ c ∷ d ∷ e ∷ f ∷ g ∷ h ∷ []
+    bytes8 (word8 (a ∷ b ∷ c ∷ d ∷ e ∷ f ∷ g ∷ h ∷ []) 0) ≡ a ∷ b ∷ c ∷ d ∷ e ∷ f ∷ g ∷ h ∷ []
 bytes8-word a b c d e f g h a< b< c< d< e< f< g< h< =
     let w = word8 (a ∷ b ∷ c ∷ d ∷ e ∷ f ∷ g ∷ h ∷ []) 0 in
     let p0 : w / 72057594037927936 % 256 ≡ a = omega arith in
@@ -70,7 +69,7 @@ bytes8-word a b c d e f g h a< b< c< d< e< f< g< h< =
     cc
 
 twelve : (xs : List ℕ) → length xs ≡ 12 →
-  xs ≡ getD xs 0 0 ∷ getD xs 1 0 ∷ getD xs 2 0 ∷ getD xs 3 0 ∷ getD xs 4 0 ∷ getD xs 5 0 ∷ getD xs 6 0 ∷ getD xs 7 0 ∷ getD xs 8 0 ∷ getD xs 9 0 ∷ getD xs 10 0 ∷ getD xs 11 0 ∷ []
+    xs ≡ getD xs 0 0 ∷ getD xs 1 0 ∷ getD xs 2 0 ∷ getD xs 3 0 ∷ getD xs 4 0 ∷ getD xs 5 0 ∷ getD xs 6 0 ∷ getD xs 7 0 ∷ getD xs 8 0 ∷ getD xs 9 0 ∷ getD xs 10 0 ∷ getD xs 11 0 ∷ []
 twelve xs l =
     let p0 : 0 < length xs = omega arith in
     let e0 = drop-more xs 0 0 p0 in

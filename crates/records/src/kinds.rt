@@ -18,6 +18,7 @@ ghost use Rattle.records.specs.Kinds.{madeTag, madeTare, plateWords, tagNumber
 // A kind of record: plain numbers, which may or may not make a record, the record's key, and the key's two words.
 pub trait Record: Copy {
     type Numbers: Copy;
+
     type Key: Copy;
 
     // the record that plain numbers make, or why they make none
@@ -58,6 +59,7 @@ pub trait Record: Copy {
 
 pub impl Record for TagRecord as TagKind {
     type Numbers = TagNumbers;
+
     type Key = u64;
 
     ghost made = { madeTag };
@@ -94,6 +96,7 @@ pub impl Record for TagRecord as TagKind {
 
 pub impl Record for TareRecord as TareKind {
     type Numbers = TareNumbers;
+
     type Key = Plate;
 
     ghost made = { madeTare };

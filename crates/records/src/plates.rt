@@ -88,7 +88,18 @@ fn spelled(first: u64, second: u32) -> [u8; 12]
     let a = first.to_be_bytes();
     let b = second.to_be_bytes();
     [
-        a[0], a[1], a[2], a[3], a[4], a[5], a[6], a[7], b[0], b[1], b[2], b[3],
+        a[0],
+        a[1],
+        a[2],
+        a[3],
+        a[4],
+        a[5],
+        a[6],
+        a[7],
+        b[0],
+        b[1],
+        b[2],
+        b[3],
     ]
 }
 

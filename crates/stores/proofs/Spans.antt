@@ -85,5 +85,5 @@ module _ {X : Type 0} where
   either-same n n′ f f′ g g′ k e p q =
       ap (λ m. either m f′ g′ k) e
       ∙ ⊎-elim (λ (h : k < n). either-first n f′ g′ k h ∙ p h ∙ sym (either-first n f g k h))
-        (λ (h : n ≤ k). either-second n f′ g′ k h ∙ q h ∙ sym (either-second n f g k h))
-        (cases-lt k n)
+      (λ (h : n ≤ k). either-second n f′ g′ k h ∙ q h ∙ sym (either-second n f g k h))
+      (cases-lt k n)

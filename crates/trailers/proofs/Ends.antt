@@ -83,8 +83,10 @@ pub closed-lawful :
 closed-lawful bs m d j n l =
     let xs = take (length bs - 32) bs in
     let w = written xs m d j n in
-    let k = closed-length bs m (l .placed .long) in
-    (record {
-      numbers = subst (λ z. Lawful (length (closedBytes bs m)) z) (sym w) (subst (λ z. Lawful z m) (sym k) l);
-      blank = blank xs m d j n;
-    }, w)
+    let k = closed-length bs m (l .placed .long) in (
+      record {
+        numbers = subst (λ z. Lawful (length (closedBytes bs m)) z) (sym w) (subst (λ z. Lawful z m) (sym k) l);
+        blank = blank xs m d j n;
+      },
+      w,
+    )

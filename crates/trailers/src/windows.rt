@@ -108,8 +108,7 @@ impl<'a> Trailer<'a> {
             u32::from(self.choices()),
             u32::from(self.start()),
             u32::from(self.load()),
-        )
-        .ok()?;
+        ).ok()?;
         Size::new(settings, u32::from(self.x()), u32::from(self.j()))
     }
 

@@ -16,8 +16,8 @@ returns-then-layout-eq1 g c =
     let w = c .args .words in
     let z = c .args .layout .size in
     let P : (Words → ℕ) → ℕ → Type 0 = λ h n.
-      Cases (c .find-below .result) (NoMatch (Match W cs w n) (choiceAt h z w) (z .settings .choices) (z .settings .cells))
-      (λ r. FirstMatch (Match W cs w n) (choiceAt h z w) (z .settings .choices) (z .settings .cells) (r .cell) × Meets W cs w (r .cell) (r .held)) in
+    Cases (c .find-below .result) (NoMatch (Match W cs w n) (choiceAt h z w) (z .settings .choices) (z .settings .cells))
+    (λ r. FirstMatch (Match W cs w n) (choiceAt h z w) (z .settings .choices) (z .settings .cells) (r .cell) × Meets W cs w (r .cell) (r .held)) in
     subst (λ n. P (hashBy (c .args .layout .family)) n) (c .used-used .ensures) (subst (λ h. P h (c .used-used .result)) (hash-one (c .args .layout .family) (c .if-layout-eq1 .taken)) (c .find-below .ensures))
 
 pub returns-else-layout-eq1 : need.returns-else-layout-eq1
@@ -27,6 +27,6 @@ returns-else-layout-eq1 g c =
     let w = c .args .words in
     let z = c .args .layout .size in
     let P : (Words → ℕ) → ℕ → Type 0 = λ h n.
-      Cases (c .find-below-else-layout-eq1 .result) (NoMatch (Match W cs w n) (choiceAt h z w) (z .settings .choices) (z .settings .cells))
-      (λ r. FirstMatch (Match W cs w n) (choiceAt h z w) (z .settings .choices) (z .settings .cells) (r .cell) × Meets W cs w (r .cell) (r .held)) in
+    Cases (c .find-below-else-layout-eq1 .result) (NoMatch (Match W cs w n) (choiceAt h z w) (z .settings .choices) (z .settings .cells))
+    (λ r. FirstMatch (Match W cs w n) (choiceAt h z w) (z .settings .choices) (z .settings .cells) (r .cell) × Meets W cs w (r .cell) (r .held)) in
     subst (λ n. P (hashBy (c .args .layout .family)) n) (c .used-used .ensures) (subst (λ h. P h (c .used-used .result)) (hash-other (c .args .layout .family) (c .if-layout-eq1 .left)) (c .find-below-else-layout-eq1 .ensures))

@@ -21,10 +21,11 @@ returns-then-count-held-layout g c =
     let bs = c .args .cells .now in
     let z = c .args .layout .size in
     let s = tableOf z (c .args .layout .count) (byteRow D bs) in
-    let u = c .used-used .ensures in
-    (refl,
-     all-end (lawfulAt D bs) (g .R·Record .keyOf) (g .R·Record .wordsOf) (g .F·Family .hashOf (c .args .family .now)) s (c .loop-k .k) (usedIn z) (c .loop-k .inv) (omega arith),
-     λ e. c .if-count-held-layout .taken (c .count-held .ensures ∙ ap (λ n. count holding (take n (byteRow D bs))) u ∙ e))
+    let u = c .used-used .ensures in (
+      refl,
+      all-end (lawfulAt D bs) (g .R·Record .keyOf) (g .R·Record .wordsOf) (g .F·Family .hashOf (c .args .family .now)) s (c .loop-k .k) (usedIn z) (c .loop-k .inv) (omega arith),
+      λ e. c .if-count-held-layout .taken (c .count-held .ensures ∙ ap (λ n. count holding (take n (byteRow D bs))) u ∙ e),
+    )
 
 pub returns : need.returns
 returns g c =
@@ -32,6 +33,7 @@ returns g c =
     let bs = c .args .cells .now in
     let z = c .args .layout .size in
     let s = tableOf z (c .args .layout .count) (byteRow D bs) in
-    let u = c .used-used .ensures in
-    (all-end (lawfulAt D bs) (g .R·Record .keyOf) (g .R·Record .wordsOf) (g .F·Family .hashOf (c .args .family .now)) s (c .loop-k .k) (usedIn z) (c .loop-k .inv) (omega arith),
-     ap (λ n. count holding (take n (byteRow D bs))) (sym u) ∙ sym (c .count-held .ensures) ∙ c .if-count-held-layout .left)
+    let u = c .used-used .ensures in (
+      all-end (lawfulAt D bs) (g .R·Record .keyOf) (g .R·Record .wordsOf) (g .F·Family .hashOf (c .args .family .now)) s (c .loop-k .k) (usedIn z) (c .loop-k .inv) (omega arith),
+      ap (λ n. count holding (take n (byteRow D bs))) (sym u) ∙ sym (c .count-held .ensures) ∙ c .if-count-held-layout .left,
+    )

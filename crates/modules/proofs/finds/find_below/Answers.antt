@@ -18,13 +18,15 @@ returns-in-Some g c =
     let w = c .args .words in
     let M : ℕ → Type 0 = Match (λ x. g .R·Record .wordsOf (g .R·Record .keyOf x)) (byteRow (decoded (g .R·Coded .kind) (g .R·Coded .end) (g .R·Coded .numbersIn) (g .R·Record .made)) (c .args .cells .now)) w (c .args .limit) in
     let e : c .position-p .result ≡ choiceAt (g .F·Family .hashOf (c .args .family .now)) z w (c .loop-i .i) = c .position-p .ensures .number ∙ ap (λ q. placeIn z q) (c .choice .ensures ∙ ap (λ v. choiceOf v (c .loop-i .i)) (c .hash-word .ensures)) in
-    let found = c .in-Some .ensures tt in
-    (record {
-      choice = c .loop-i .i;
-      below = omega arith;
-      first = subst (λ p. FirstIn M (p * z .settings .cells) (p * z .settings .cells + z .settings .cells) (c .in-Some .hit .cell)) e (found .0);
-      others = c .loop-i .inv;
-    }, found .1)
+    let found = c .in-Some .ensures tt in (
+      record {
+        choice = c .loop-i .i;
+        below = omega arith;
+        first = subst (λ p. FirstIn M (p * z .settings .cells) (p * z .settings .cells + z .settings .cells) (c .in-Some .hit .cell)) e (found .0);
+        others = c .loop-i .inv;
+      },
+      found .1,
+    )
 
 pub loop-i-again : need.loop-i-again
 loop-i-again g c =

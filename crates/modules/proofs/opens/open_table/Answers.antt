@@ -16,8 +16,8 @@ returns-in-Err g c =
     let D = decoded (g .R·Coded .kind) (g .R·Coded .end) (g .R·Coded .numbersIn) (g .R·Record .made) in
     record {
       accepted = λ ok.
-        absurd
-        (not-both D (g .R·Coded .kind) (g .F·Family .numberOf (c .args .family .now)) (g .R·Record .keyOf) (g .R·Record .wordsOf) (g .F·Family .hashOf (c .args .family .now)) (c .args .bytes .now)
+          absurd
+          (not-both D (g .R·Coded .kind) (g .F·Family .numberOf (c .args .family .now)) (g .R·Record .keyOf) (g .R·Record .wordsOf) (g .F·Family .hashOf (c .args .family .now)) (c .args .bytes .now)
           (c .in-Err .field-0) (c .in-Err .ensures tt .answer) ok);
       declined = λ _. c .nothing-in-Err .ensures;
     }

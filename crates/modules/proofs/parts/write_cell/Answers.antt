@@ -26,7 +26,7 @@ returns g c =
     record {
       answer = c .bytes-write .ensures .answer ∙ ap (λ ys. writeOf o (byteRow D ys) at) part;
       inside = λ _ _.
-        ap (λ ys. take (p .start) bs ++ (ys ++ drop (p .end - p .start) (drop (p .start) bs))) (c .bytes-write .ensures .raw ∙ ap (λ ys. bytesAfter E o ys at) part)
-        ∙ ap (λ zs. take (p .start) bs ++ (bytesAfter E o (partOf bs p) at ++ zs)) rest;
+          ap (λ ys. take (p .start) bs ++ (ys ++ drop (p .end - p .start) (drop (p .start) bs))) (c .bytes-write .ensures .raw ∙ ap (λ ys. bytesAfter E o ys at) part)
+          ∙ ap (λ zs. take (p .start) bs ++ (bytesAfter E o (partOf bs p) at ++ zs)) rest;
       outside = λ no-part. absurd (no-part (a, b));
     }

@@ -50,13 +50,13 @@ returns g c =
     record {
       answer = sym (ap (λ o. writeOf o xs at) o ∙ write-in v xs at h);
       cells =
-        ap (λ n. byteRow D (putMid (32 * at) n bs ys)) w
-        ∙ written bs ys at fits full D same lt
-        ∙ ap (λ v. set xs at v) (ap (λ c. inCell (D c)) (c .copy-from-slice .ensures .after) ∙ c .encode-code .ensures .back)
-        ∙ sym (ap (λ o. after o xs at) o);
+          ap (λ n. byteRow D (putMid (32 * at) n bs ys)) w
+          ∙ written bs ys at fits full D same lt
+          ∙ ap (λ v. set xs at v) (ap (λ c. inCell (D c)) (c .copy-from-slice .ensures .after) ∙ c .encode-code .ensures .back)
+          ∙ sym (ap (λ o. after o xs at) o);
       raw =
-        ap (λ n. putMid (32 * at) n bs ys) w
-        ∙ ap (putMid (32 * at) 32 bs) (c .copy-from-slice .ensures .after ∙ c .encode-code .ensures .bytes)
-        ∙ raw-in E v bs at lt
-        ∙ sym (ap (λ o. bytesAfter E o bs at) o);
+          ap (λ n. putMid (32 * at) n bs ys) w
+          ∙ ap (putMid (32 * at) 32 bs) (c .copy-from-slice .ensures .after ∙ c .encode-code .ensures .bytes)
+          ∙ raw-in E v bs at lt
+          ∙ sym (ap (λ o. bytesAfter E o bs at) o);
     }

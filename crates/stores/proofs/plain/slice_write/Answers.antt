@@ -37,8 +37,8 @@ returns g c =
     record {
       answer = sym (ap (λ o. writeOf o xs (c .args .at)) o ∙ write-in v xs (c .args .at) h);
       cells =
-        row-set f (c .args .cells .now) (c .args .at) (c .args .cell .now)
-        ∙ ap (λ o. set xs (c .args .at) (orEmpty o)) o
-        ∙ sym (ap (λ o. after o xs (c .args .at)) o);
+          row-set f (c .args .cells .now) (c .args .at) (c .args .cell .now)
+          ∙ ap (λ o. set xs (c .args .at) (orEmpty o)) o
+          ∙ sym (ap (λ o. after o xs (c .args .at)) o);
       raw = refl;
     }

@@ -21,7 +21,7 @@ returns c =
     (taken-from TooManyBuckets (c .new .result) (c .new .ensures)
     (λ h. grown-fits (z .settings .t) (z .x) (z .j) _ _ (z .settings .start) x j (z .below) (z .floor) h)
     (λ s h.
-        let g : Grown z s = record { settings = h .0; x = h .1 ∙ x; j = h .2 ∙ j } in
-        let e = next-buckets z s g in
-        let r = s .room in
-        (omega arith, g)))
+    let g : Grown z s = record { settings = h .0; x = h .1 ∙ x; j = h .2 ∙ j } in
+    let e = next-buckets z s g in
+    let r = s .room in
+    (omega arith, g)))

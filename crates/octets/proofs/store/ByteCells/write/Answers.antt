@@ -25,9 +25,9 @@ returns g c =
       place = refl;
       others = λ k h. ap of-bytes (ap (λ zs. cellBytes zs k) (w .raw) ∙ bytes-others E sized D o r bs at k (w .answer) h);
       made = λ e.
-        ap of-bytes
-        (ap (λ zs. cellBytes zs at) (w .raw)
-        ∙ bytes-made E sized D o r bs at (w .answer) e
-        ∙ ap (λ xs. coded E (getD xs at Empty)) (sym (w .cells)));
+          ap of-bytes
+          (ap (λ zs. cellBytes zs at) (w .raw)
+          ∙ bytes-made E sized D o r bs at (w .answer) e
+          ∙ ap (λ xs. coded E (getD xs at Empty)) (sym (w .cells)));
       codes = λ k v. refl;
     }

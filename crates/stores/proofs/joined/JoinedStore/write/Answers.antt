@@ -46,19 +46,19 @@ returns-then-at-a g c =
     record {
       answer = w .answer ∙ write-same o xs (take (2 ^ 40) (xs ++ ys)) at at h k;
       cells =
-        ap (λ zs. take (2 ^ 40) (zs ++ ys)) (w .cells)
-        ∙ ap (take (2 ^ 40)) (after-left o xs ys at h)
-        ∙ after-take o (2 ^ 40) (xs ++ ys) at;
+          ap (λ zs. take (2 ^ 40) (zs ++ ys)) (w .cells)
+          ∙ ap (take (2 ^ 40)) (after-left o xs ys at h)
+          ∙ after-take o (2 ^ 40) (xs ++ ys) at;
       place = ap (λ p. both p (g .B·Store .place (s .second))) (w .place);
       others = λ k q. either-same (length xs) (length zs) (g .A·Store .raw (s .first)) (g .A·Store .raw t) (g .B·Store .raw (s .second)) (g .B·Store .raw (s .second)) k n (λ _. w .others k q) (λ _. refl);
       made = λ q.
-        either-first (length zs) (g .A·Store .raw t) (g .B·Store .raw (s .second)) at hz
-        ∙ w .made q
-        ∙ ap (g .A·Store .code (s .first) at) (joined-left (2 ^ 40) zs ys at m hz)
-        ∙ ap (λ f. f (getD (take (2 ^ 40) (zs ++ ys)) at Empty)) (sym (either-first (length xs) (g .A·Store .code (s .first)) (g .B·Store .code (s .second)) at h));
+          either-first (length zs) (g .A·Store .raw t) (g .B·Store .raw (s .second)) at hz
+          ∙ w .made q
+          ∙ ap (g .A·Store .code (s .first) at) (joined-left (2 ^ 40) zs ys at m hz)
+          ∙ ap (λ f. f (getD (take (2 ^ 40) (zs ++ ys)) at Empty)) (sym (either-first (length xs) (g .A·Store .code (s .first)) (g .B·Store .code (s .second)) at h));
       codes = λ k v.
-        ap (λ f. f v)
-        (either-same (length xs) (length zs) (g .A·Store .code (s .first)) (g .A·Store .code t) (g .B·Store .code (s .second)) (g .B·Store .code (s .second)) k n (λ _ i v. w .codes k v i) (λ _. refl));
+          ap (λ f. f v)
+          (either-same (length xs) (length zs) (g .A·Store .code (s .first)) (g .A·Store .code t) (g .B·Store .code (s .second)) (g .B·Store .code (s .second)) k n (λ _ i v. w .codes k v i) (λ _. refl));
     }
 
 pub returns-else-at-a : need.returns-else-at-a
@@ -82,19 +82,19 @@ returns-else-at-a g c =
     record {
       answer = w .answer ∙ write-same o ys (take (2 ^ 40) (xs ++ ys)) (at - n) at h k;
       cells =
-        ap (λ zs. take (2 ^ 40) (xs ++ zs)) (w .cells)
-        ∙ ap (take (2 ^ 40)) (after-right o xs ys n at (sym en) l)
-        ∙ after-take o (2 ^ 40) (xs ++ ys) at;
+          ap (λ zs. take (2 ^ 40) (xs ++ zs)) (w .cells)
+          ∙ ap (take (2 ^ 40)) (after-right o xs ys n at (sym en) l)
+          ∙ after-take o (2 ^ 40) (xs ++ ys) at;
       place = ap (λ p. both (g .A·Store .place (s .first)) p) (w .place);
       others = λ k q. either-same (length xs) (length xs) (g .A·Store .raw (s .first)) (g .A·Store .raw (s .first)) (g .B·Store .raw (s .second)) (g .B·Store .raw t) k refl (λ _. refl) (λ p. w .others (k - length xs) (λ z. q (omega arith)));
       made = λ q.
-        either-second (length xs) (g .A·Store .raw (s .first)) (g .B·Store .raw t) at lx
-        ∙ ap (λ n. g .B·Store .raw t (at - n)) (sym en)
-        ∙ w .made q
-        ∙ ap (g .B·Store .code (s .second) (at - n)) (joined-right (2 ^ 40) xs zs n at m (sym en) l)
-        ∙ ap (λ n. g .B·Store .code (s .second) (at - n) (getD (take (2 ^ 40) (xs ++ zs)) at Empty)) en
-        ∙ ap (λ f. f (getD (take (2 ^ 40) (xs ++ zs)) at Empty)) (sym (either-second (length xs) (g .A·Store .code (s .first)) (g .B·Store .code (s .second)) at lx));
+          either-second (length xs) (g .A·Store .raw (s .first)) (g .B·Store .raw t) at lx
+          ∙ ap (λ n. g .B·Store .raw t (at - n)) (sym en)
+          ∙ w .made q
+          ∙ ap (g .B·Store .code (s .second) (at - n)) (joined-right (2 ^ 40) xs zs n at m (sym en) l)
+          ∙ ap (λ n. g .B·Store .code (s .second) (at - n) (getD (take (2 ^ 40) (xs ++ zs)) at Empty)) en
+          ∙ ap (λ f. f (getD (take (2 ^ 40) (xs ++ zs)) at Empty)) (sym (either-second (length xs) (g .A·Store .code (s .first)) (g .B·Store .code (s .second)) at lx));
       codes = λ k v.
-        ap (λ f. f v)
-        (either-same (length xs) (length xs) (g .A·Store .code (s .first)) (g .A·Store .code (s .first)) (g .B·Store .code (s .second)) (g .B·Store .code t) k refl (λ _. refl) (λ _ i v. w .codes (k - length xs) v i));
+          ap (λ f. f v)
+          (either-same (length xs) (length xs) (g .A·Store .code (s .first)) (g .A·Store .code (s .first)) (g .B·Store .code (s .second)) (g .B·Store .code t) k refl (λ _. refl) (λ _ i v. w .codes (k - length xs) v i));
     }

@@ -18,9 +18,9 @@ returns g c =
       place = refl;
       others = λ k h. ap of-cell (ap (λ cs. getD cs k Empty) (w .raw) ∙ slice-others r cs at (c .args .cell .now) k h);
       made = λ e.
-        ap of-cell
-        (ap (λ cs. getD cs at Empty) (w .raw)
-        ∙ slice-made (g .R·Record .made) (g .R·Record .numbersOf) (g .R·Record·met .alone) r cs at (c .args .cell .now) (w .answer) e
-        ∙ ap (λ xs. plain (g .R·Record .numbersOf) (getD xs at Empty)) (sym (w .cells)));
+          ap of-cell
+          (ap (λ cs. getD cs at Empty) (w .raw)
+          ∙ slice-made (g .R·Record .made) (g .R·Record .numbersOf) (g .R·Record·met .alone) r cs at (c .args .cell .now) (w .answer) e
+          ∙ ap (λ xs. plain (g .R·Record .numbersOf) (getD xs at Empty)) (sym (w .cells)));
       codes = λ k v. refl;
     }

@@ -42,16 +42,16 @@ returns g c =
     record {
       answer = w .answer ∙ write-same o xs (take len (drop start xs)) (start + at) at h k;
       cells =
-        ap (λ zs. take len (drop start zs)) (w .cells)
-        ∙ ap (take len) (after-drop o start xs at)
-        ∙ after-take o len (drop start xs) at;
+          ap (λ zs. take len (drop start zs)) (w .cells)
+          ∙ ap (take len) (after-drop o start xs at)
+          ∙ after-take o len (drop start xs) at;
       place =
-        let p : take start (g .S·Store .cells t) ≡ take start xs =
+          let p : take start (g .S·Store .cells t) ≡ take start xs =
           ap (take start) (w .cells) ∙ after-before o start xs (start + at) (omega arith) in
-        let q : drop (start + len) (g .S·Store .cells t) ≡ drop (start + len) xs =
+          let q : drop (start + len) (g .S·Store .cells t) ≡ drop (start + len) xs =
           ap (drop (start + len)) (w .cells) ∙ after-behind o (start + len) xs (start + at) (omega arith) in
-        let r = w .place in
-        cc;
+          let r = w .place in
+          cc;
       others = λ k q. w .others (start + k) (λ z. q (omega arith));
       made = λ q. w .made q ∙ ap (g .S·Store .code (s .inner) (start + at)) (window-get start len (g .S·Store .cells t) at m);
       codes = λ k v. w .codes (start + k) v;
