@@ -9,9 +9,9 @@ use lib.Pow.{pow-mono}
 use lib.Dec.{ltb, eqb}
 use Rattle.std.proofs.shelf.Bits.{pow-pos, mul-le, mod-pow-add, mod-below}
 use Rattle.std.proofs.shelf.Tests.{cases-eq, cases-lt, cases-bool, cond-true, cond-false, and-left, and-right, and-from, and-parts, ne-eqb, eq-eqb, eqb-true, lt-ltb, le-ltb}
-use Rattle.addresses.specs.Ranges.{buckets, Lawful}
+use Rattle.addresses.specs.Ranges.{buckets}
 use Rattle.addresses.specs.Positions.{subtableOf, bucketOf, highest, positionOf, place, widthOf, grownX, grownJ, whole}
-use Rattle.addresses.proofs.Stated.{Added, Moved, Within, Merged}
+use Rattle.addresses.proofs.Stated.{Added, Moved, Within, Merged, Lawful}
 use Rattle.addresses.proofs.Bounds.{x-small, exponent-lt, one-less, twice, subtable-lt}
 use Rattle.addresses.proofs.Extents.{in-extent, below, Top}
 

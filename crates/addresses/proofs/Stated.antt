@@ -3,8 +3,12 @@ use mathlib.Core.Path.{_≡_}
 use mathlib.Core.Bool.{cond, _&&_}
 use Prim.Native.Nat.{ℕ, _+_, _/_, _%_, _^_, _≤_, _<_}
 use lib.Dec.{eqb}
-use Rattle.addresses.specs.Ranges.{buckets, Lawful}
+use Rattle.addresses.specs.Ranges.{buckets}
 use Rattle.addresses.specs.Positions.{subtableOf, widthOf, positionOf, place, grownX, grownJ, whole}
+
+-- the numbers of a size
+abbrev pub Lawful : ℕ → ℕ → ℕ → Type 0
+Lawful t x j = (t ≤ 6) × (j < 2 ^ t) × (buckets t x j ≤ 16384)
 
 abbrev pub Below : Type 0
 Below = (t x j g b : ℕ) → Lawful t x j → g < 2 ^ t → b < 2 ^ widthOf x j g → positionOf t g b < buckets t x j

@@ -14,14 +14,9 @@ use Rattle.stores.specs.declared.cells.Cell.{Cell}
 use Rattle.stores.specs.declared.cells.Cell.the-variants.{Empty, Holds}
 use Rattle.rules.specs.Tables.{State, HoldsAt, choiceAt, ownIn, usedIn}
 use Rattle.rules.proofs.Owned.{choice-of, in-or-not}
+use Rattle.rules.proofs.Sounds.{not-both, same-held}
 use Rattle.modules.specs.Checks.{Misplaced, Repeated, Fine, FaultIs, AllFine}
 use Rattle.modules.specs.Finds.{Meets, Match, NoMatch}
-
-same-held : {R : Type 0} (c : Cell R) (q r : R) → c ≡ Holds q → c ≡ Holds r → q ≡ r
-same-held c q r p e = cc
-
-not-both : {R : Type 0} (c : Cell R) (r : R) → c ≡ Empty → c ≡ Holds r → ⊥
-not-both c r p e = let z : _≡_ {A = ℕ} 0 1 = cc in omega arith
 
 module _ {R K : Type 0} (law : ℕ → Bool) (key : R → K) (words : K → Words) (hash : Words → ℕ) (s : State R) (k : ℕ) where
   pub fine : law k ≡ true → (Misplaced law key words hash s k → ⊥) → (Repeated law key words hash s k → ⊥) → Fine law key words hash s k

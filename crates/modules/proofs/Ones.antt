@@ -19,9 +19,10 @@ use Rattle.records.specs.Kinds.{plateWords, tagWords}
 use Rattle.records.proofs.Taken.{same-decline}
 use Rattle.stores.specs.declared.cells.Cell.{Cell}
 use Rattle.stores.specs.declared.cells.Cell.the-variants.{Empty, Holds}
-use Rattle.octets.specs.Codec.{lawfulAt}
+use Rattle.octets.specs.Codec.{byteRow, lawfulAt}
 use Rattle.rules.specs.Rows.{Row, First}
 use Rattle.rules.specs.Tables.{State, usedIn}
+use Rattle.rules.proofs.Sounds.{same-held}
 use Rattle.trailers.specs.declared.layouts.Layout.{Layout}
 use Rattle.trailers.specs.Layouts.{numbersOf}
 use Rattle.trailers.specs.Trailers.{LawfulTrailer, numbersIn}
@@ -143,15 +144,12 @@ find-cell-has-one-answer bs w r q h g =
           ]
     ]
 
-same-held : {R : Type 0} (cs : List (Cell R)) (c d : ℕ) (x y : R) → c ≡ d → getD cs c Empty ≡ Holds x → getD cs d Empty ≡ Holds y → x ≡ y
-same-held cs c d x y e a b = let f = ap (λ k. getD cs k Empty) e in cc
-
 one-record : {R : Type 0} (D : List ℕ → Option R) (words : R → Words) (bs : List ℕ) (w : Words) (l : Layout) (r q : Result (Option R) Decline) → RecordIs D words bs w l r → RecordIs D words bs w l q → r ≡ q
 one-record D words bs w l (Ok None) (Ok None) a b = refl
 one-record D words bs w l (Ok None) (Ok (Some y)) a b = absurd (none-first _ _ _ _ (b .0) a (b .1))
 one-record D words bs w l (Ok (Some x)) (Ok None) a b = absurd (none-first _ _ _ _ (a .0) b (a .1))
 one-record D words bs w l (Ok (Some x)) (Ok (Some y)) a b =
-    ap (λ x. Ok (Some x)) (same-held _ (a .0) (b .0) x y (one-match _ _ _ _ (a .0) (b .0) (a .1) (b .1)) (a .2 .here) (b .2 .here))
+    ap (λ x. Ok (Some x)) (let e = one-match _ _ _ _ (a .0) (b .0) (a .1) (b .1) in same-held _ x y (a .2 .here) (ap (λ k. getD (byteRow D (cellsPart bs)) k Empty) e ∙ b .2 .here))
 one-record D words bs w l (Ok o) (Err d) a b = absurd b
 one-record D words bs w l (Err d) q a b = absurd a
 

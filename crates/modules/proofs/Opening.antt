@@ -84,7 +84,7 @@ module _ {R K : Type 0} (D : List ℕ → Option R) (k f : ℕ) (key : R → K) 
 pub is-opened : (bs : List ℕ) (o : Opened) (m : Layout) → LawfulTrailer bs → numbersOf m ≡ numbersIn bs → o .size ≡ m .size → o .count ≡ m .count → o .part .end ≡ length bs - 32 → o .part .start ≡ length bs - 32 - m .distance →
     (l : Layout) → numbersOf l ≡ numbersIn bs → IsOpened bs o l
 is-opened bs o m lawful e size count end start l g =
-    for-layout (λ l. IsOpened bs o l) m l (numbersIn bs) e g (record { size = size; count = count; part = opened-part bs m (o .part) lawful e end start })
+    for-layout (λ l. IsOpened bs o l) m l (numbersIn bs) e g (record { size = size; count = count; ends = end; begins = start; part = opened-part bs m (o .part) lawful e end start })
 
 pub what-was-closed-opens : {R K : Type 0} → What-was-closed-opens R K
 what-was-closed-opens D k f key words hash bs cs n o closed second =

@@ -37,6 +37,8 @@ OpensSound D key words hash bs = (l : Layout) → numbersOf l ≡ numbersIn bs �
 pub record IsOpened (bs : List ℕ) (o : Opened) (l : Layout) : Type 0 where
   pub size : o .size ≡ l .size
   pub count : o .count ≡ l .count
+  pub ends : o .part .end ≡ length bs - 32
+  pub begins : o .part .start ≡ length bs - 32 - l .distance
   pub part : partOf bs (o .part) ≡ cellsPart bs
 
 -- a table of the smallest settings over no cells

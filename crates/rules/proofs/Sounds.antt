@@ -11,8 +11,12 @@ use Rattle.rules.specs.Tables.{State, HoldsAt, holding, usedIn}
 use Rattle.rules.specs.Theorems.{An-empty-table-is-sound}
 use Rattle.rules.proofs.Counted.{count-none}
 
-not-both : {R : Type 0} (c : Cell R) (r : R) → c ≡ Empty → c ≡ Holds r → ⊥
+-- a cell is not empty and held, and holds one record
+pub not-both : {R : Type 0} (c : Cell R) (r : R) → c ≡ Empty → c ≡ Holds r → ⊥
 not-both c r e h = let z : _≡_ {A = ℕ} 0 1 = cc in omega arith
+
+pub same-held : {R : Type 0} (c : Cell R) (q r : R) → c ≡ Holds q → c ≡ Holds r → q ≡ r
+same-held c q r p e = cc
 
 pub an-empty-table-is-sound : {R K : Type 0} → An-empty-table-is-sound R K
 an-empty-table-is-sound key words hash s reach empty none = record {
