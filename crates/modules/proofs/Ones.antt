@@ -79,7 +79,7 @@ kind-of bs l =
     let high = l .numbers .placed .kind-high in
     elim (cases-eq (numbersIn bs .kind) 1) [ inl e ↦ inl e | inr n ↦ inr (omega arith) ]
 
-no-trailers : (r q : Result (Unit {0}) Fault) → NoTrailer r → NoTrailer q → r ≡ q
+pub no-trailers : (r q : Result (Unit {0}) Fault) → NoTrailer r → NoTrailer q → r ≡ q
 no-trailers (Ok u) q a b = absurd a
 no-trailers (Err f) (Ok u) a b = absurd b
 no-trailers (Err f) (Err g) a b = ap (λ f. Err f) (same-fault f g (a .0 ∙ sym (b .0)) (a .1 ∙ sym (b .1)))

@@ -22,11 +22,11 @@ use Rattle.modules.specs.declared.opens.Opened.{Opened}
 use Rattle.modules.specs.declared.parts.Part.{Part}
 use Rattle.modules.specs.Checks.{Checks, tableOf}
 use Rattle.modules.specs.Modules.{cellsPart, inModule}
-use Rattle.modules.specs.Laws.{What-was-closed-opens}
+use Rattle.modules.specs.Laws.{Open-has-one-answer, What-was-closed-opens}
 use Rattle.modules.specs.Opens.{Names, FirstOpens, OpensSound, IsOpened}
 use Rattle.modules.specs.Parts.{partOf}
 use Rattle.modules.proofs.Whole.{for-layout, accepts, reaches, part-length}
-use Rattle.modules.proofs.Ones.{one-check}
+use Rattle.modules.proofs.Ones.{no-trailers, one-check}
 
 pub part-is : (bs : List ℕ) (p : Part) → p .start ≤ p .end → p .end ≤ length bs → take (p .end - p .start) (drop (p .start) bs) ≡ partOf bs p
 part-is bs p a b = sym (rw (le-leb (p .start) (p .end) a, le-leb (p .end) (length bs) b))
@@ -68,17 +68,21 @@ module _ {R K : Type 0} (D : List ℕ → Option R) (k f : ℕ) (key : R → K) 
         λ ok l g. accepts (lawfulAt D (cellsPart bs)) key words hash (inModule D l bs) r (reaches D bs l (names .lawful) g) ok (every l g),
       )
 
-  -- a decline is no acceptance
-  pub not-both : (e : Fault) → FirstOpens D k f key words hash bs (Err e) → FirstOpens D k f key words hash bs (Ok tt) → ⊥
-  not-both e a b =
+  pub one-opening : (r q : Result (Unit {0}) Fault) → FirstOpens D k f key words hash bs r → FirstOpens D k f key words hash bs q → r ≡ q
+  one-opening r q a b =
       elim (names-or-not k f bs) [
-        | inr other ↦ b .trailer other
+        | inr other ↦ no-trailers r q (a .trailer other) (b .trailer other)
         | inl names ↦
             let l = layout-of bs (names .lawful) in
-            let same : _≡_ {A = Result (Unit {0}) Fault} (Err e) (Ok tt) = one-check (lawfulAt D (cellsPart bs)) key words hash (inModule D (l .0) bs) (Err e) (Ok tt) (a .cells names (l .0) (l .1)) (b .cells names (l .0) (l .1)) in
-            let z : _≡_ {A = ℕ} 0 1 = cc in
-            omega arith
+            one-check (lawfulAt D (cellsPart bs)) key words hash (inModule D (l .0) bs) r q (a .cells names (l .0) (l .1)) (b .cells names (l .0) (l .1))
       ]
+
+  -- a decline is no acceptance
+  pub not-both : (e : Fault) → FirstOpens D k f key words hash bs (Err e) → FirstOpens D k f key words hash bs (Ok tt) → ⊥
+  not-both e a b = let same = one-opening (Err e) (Ok tt) a b in let z : _≡_ {A = ℕ} 0 1 = cc in omega arith
+
+pub open-has-one-answer : {R K : Type 0} → Open-has-one-answer R K
+open-has-one-answer D k f key words hash bs r q a b = one-opening D k f key words hash bs r q a b
 
 -- what the second call gives, where the trailer is lawful
 pub is-opened : (bs : List ℕ) (o : Opened) (m : Layout) → LawfulTrailer bs → numbersOf m ≡ numbersIn bs → o .size ≡ m .size → o .count ≡ m .count → o .part .end ≡ length bs - 32 → o .part .start ≡ length bs - 32 - m .distance →

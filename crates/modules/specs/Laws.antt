@@ -1,4 +1,4 @@
--- What holds of modules: one answer only for check and find, and what was closed opens with the same numbers.
+-- What holds of modules: one answer only for check, find and open, and what was closed opens with the same numbers.
 use mathlib.Core.List.{List}
 use mathlib.Core.Path.{_≡_}
 use Prim.Native.Nat.{ℕ, _*_}
@@ -27,6 +27,11 @@ abbrev pub Find-has-one-answer : Type 0 → Type 0
 Find-has-one-answer R =
     (D : List ℕ → Option R) (words : R → Words) (bs : List ℕ) (w : Words) (r q : Result (Option R) Decline) →
     FindsRecord D words bs w r → FindsRecord D words bs w q → r ≡ q
+
+abbrev pub Open-has-one-answer : Type 0 → Type 0 → Type 0
+Open-has-one-answer R K =
+    (D : List ℕ → Option R) (k f : ℕ) (key : R → K) (words : K → Words) (hash : Words → ℕ) (bs : List ℕ) (r q : Result (Unit {0}) Fault) →
+    FirstOpens D k f key words hash bs r → FirstOpens D k f key words hash bs q → r ≡ q
 
 -- What close wrote has a lawful trailer, and where the module opens it gives the numbers back that were closed, over as many cells.
 abbrev pub What-was-closed-opens : Type 0 → Type 0 → Type 0

@@ -1,5 +1,5 @@
 // What holds of modules: each function's contract is a theorem.
-ghost use Rattle.modules.specs.Laws.{Check-has-one-answer, Find-cell-has-one-answer, Find-has-one-answer, What-was-closed-opens};
+ghost use Rattle.modules.specs.Laws.{Check-has-one-answer, Find-cell-has-one-answer, Find-has-one-answer, Open-has-one-answer, What-was-closed-opens};
 
 pub fn check_has_one_answer() -> u8
     ensures { λ _. ⌜ Check-has-one-answer ⌝ }
@@ -15,6 +15,12 @@ pub fn find_cell_has_one_answer() -> u8
 
 pub fn find_has_one_answer<R>() -> u8
     ensures { λ _. ⌜ Find-has-one-answer R ⌝ }
+{
+    0
+}
+
+pub fn open_has_one_answer<R, K>() -> u8
+    ensures { λ _. ⌜ Open-has-one-answer R K ⌝ }
 {
     0
 }
