@@ -1,4 +1,6 @@
 // The two calls of the terminal's C firmware, on numbers and byte spans only. include/firmware.h declares them.
+#![tactic(auto)]
+
 ghost use Rattle.std.specs.Prelude.{◌≡◌, ℕ, Option, Result};
 ghost use Rattle.records.specs.declared.declines.Decline.{Decline};
 ghost use Rattle.modules.specs.declared.faults.Fault.{Fault};

@@ -1,4 +1,6 @@
 // Answers lines about keys and sizes, one answer to a line: hashes, plates, positions, and sizes one grow on or back.
+#![tactic(auto)]
+
 use addresses::positions::choice;
 use addresses::sizes::{Settings, Size};
 use records::declines::Decline;

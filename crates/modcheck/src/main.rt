@@ -1,5 +1,7 @@
 // Reads a module from standard input and prints what its trailer says, what check answers of it, and what is found of the keys that
 // are given as arguments.
+#![tactic(auto)]
+
 use modules::calls::{check, find};
 use records::declines::Decline;
 use records::plates::Plate;

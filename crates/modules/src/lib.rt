@@ -1,4 +1,6 @@
 // Modules: find, check, open and the cells of a new module.
+#![tactic(auto)]
+
 pub mod calls;
 pub mod checks;
 pub mod faults;

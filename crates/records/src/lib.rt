@@ -1,4 +1,6 @@
 // Declines, plates, tags, records and their kinds.
+#![tactic(auto)]
+
 pub mod bytes;
 pub mod characters;
 pub mod declines;

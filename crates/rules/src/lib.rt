@@ -1,4 +1,6 @@
 // The rules of a table, over any record kind, hash family and store: each function's contract is a theorem.
+#![tactic(auto)]
+
 ghost use Rattle.rules.specs.Theorems.{ARouteCountsMoves, ASoundTableIsHeld, AnEmptyTableIsSound, AnEraseKeepsSound, AnInsertIsAnAssignment, AnInsertKeepsSound, BlockedIsFull, LayersAreFewest, OwnBucketsLieBelow};
 
 pub fn own_buckets_lie_below() -> u8

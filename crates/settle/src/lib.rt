@@ -1,4 +1,6 @@
 // A place for a record: directly, or along a path of displaced records.
+#![tactic(auto)]
+
 pub mod rooms;
 pub mod settles;
 pub mod spot;

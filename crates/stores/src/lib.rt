@@ -1,4 +1,6 @@
 // Cell stores: what every store shows, and the plain, joined and windowed stores.
+#![tactic(auto)]
+
 pub mod cells;
 pub mod joined;
 pub mod lent;

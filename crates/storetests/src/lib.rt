@@ -1,4 +1,6 @@
 // Tests of the stores: the plain store over both record kinds, and stores within stores.
+#![tactic(auto)]
+
 #[cfg(test)]
 mod tests {
     use records::declines::Decline;

@@ -1,4 +1,6 @@
 // The record table, over any store, hash family and record kind.
+#![tactic(auto)]
+
 pub mod cells;
 pub mod erase;
 pub mod find;

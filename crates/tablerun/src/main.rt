@@ -1,4 +1,6 @@
 // Drives tables of tag records over each store: answers lines that make a table and ask of it, one answer to a line.
+#![tactic(auto)]
+
 mod answers;
 mod lines;
 mod makes;

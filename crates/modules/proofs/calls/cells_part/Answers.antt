@@ -8,7 +8,7 @@ pub returns : goal.returns
 returns c =
     let bs = c.args.bytes.now in
     let d = (numbers_in bs).distance in
-    let s = c.saturating-sub-start.result in
+    let s = c.saturating_sub-start.result in
     let e = c.if-length-start.end in
     let f : c.distance-distance.result ≡ d = c.distance-distance.ensures in
     let at : s ≡ length bs - 32 - d = omega arith in

@@ -13,7 +13,7 @@ returns-in-Some g c =
     let W : g.row.R.Denot → Words = λ y. g.R.Record.words_of (g.R.Record.key_of y) in
     let hit = c.in-Some.hit in
     subst (λ w. FindsRecord D W c.args.bytes.now w (Ok (Some hit.held))) c.words.ensures
-    (one_record c.args.bytes.now c.cells-part.result.now c.in-Ok.layout c.words.result t.0 t.1 c.cells-part.ensures D W hit.cell hit.held h.0 h.1)
+    (one_record c.args.bytes.now c.cells_part.result.now c.in-Ok.layout c.words.result t.0 t.1 c.cells_part.ensures D W hit.cell hit.held h.0 h.1)
 
 pub returns-in-None : goal.returns-in-None
 returns-in-None g c =
@@ -21,4 +21,4 @@ returns-in-None g c =
     let D = decoded g.R.Coded.kind g.R.Coded.end g.R.Coded.numbers_in g.R.Record.made in
     let W : g.row.R.Denot → Words = λ y. g.R.Record.words_of (g.R.Record.key_of y) in
     subst (λ w. FindsRecord D W c.args.bytes.now w (Ok None)) c.words.ensures
-    (no_record c.args.bytes.now c.cells-part.result.now c.in-Ok.layout c.words.result t.0 t.1 c.cells-part.ensures D W c.in-None.ensures)
+    (no_record c.args.bytes.now c.cells_part.result.now c.in-Ok.layout c.words.result t.0 t.1 c.cells_part.ensures D W c.in-None.ensures)

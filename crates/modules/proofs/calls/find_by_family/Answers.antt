@@ -14,9 +14,9 @@ returns-then-layout-eq1 g c =
     let w = c.args.words in
     let z = c.args.layout.size in
     let P : (Words → ℕ) → ℕ → Type 0 = λ h n.
-    MatchOption c.find-below.result (NoMatch (Match W cs w n) (choice_at h z w) z.settings.choices z.settings.cells)
+    MatchOption c.find_below.result (NoMatch (Match W cs w n) (choice_at h z w) z.settings.choices z.settings.cells)
     (λ r. FirstMatch (Match W cs w n) (choice_at h z w) z.settings.choices z.settings.cells r.cell × Meets W cs w r.cell r.held) in
-    subst (λ n. P (hash_by c.args.layout.family) n) c.used-used.ensures (subst (λ h. P h c.used-used.result) (hash_one c.args.layout.family c.if-layout-eq1.true) c.find-below.ensures)
+    subst (λ n. P (hash_by c.args.layout.family) n) c.used-used.ensures (subst (λ h. P h c.used-used.result) (hash_one c.args.layout.family c.if-layout-eq1.true) c.find_below.ensures)
 
 pub returns-else-layout-eq1 : goal.returns-else-layout-eq1
 returns-else-layout-eq1 g c =
@@ -25,6 +25,6 @@ returns-else-layout-eq1 g c =
     let w = c.args.words in
     let z = c.args.layout.size in
     let P : (Words → ℕ) → ℕ → Type 0 = λ h n.
-    MatchOption c.find-below-else-layout-eq1.result (NoMatch (Match W cs w n) (choice_at h z w) z.settings.choices z.settings.cells)
+    MatchOption c.find_below-else-layout-eq1.result (NoMatch (Match W cs w n) (choice_at h z w) z.settings.choices z.settings.cells)
     (λ r. FirstMatch (Match W cs w n) (choice_at h z w) z.settings.choices z.settings.cells r.cell × Meets W cs w r.cell r.held) in
-    subst (λ n. P (hash_by c.args.layout.family) n) c.used-used.ensures (subst (λ h. P h c.used-used.result) (hash_other c.args.layout.family c.if-layout-eq1.false) c.find-below-else-layout-eq1.ensures)
+    subst (λ n. P (hash_by c.args.layout.family) n) c.used-used.ensures (subst (λ h. P h c.used-used.result) (hash_other c.args.layout.family c.if-layout-eq1.false) c.find_below-else-layout-eq1.ensures)

@@ -13,8 +13,8 @@ loop-k-preserved g c =
     let s = table_of c.args.layout.size c.args.layout.count (byte_row D bs) in
     all_more (lawful_at D bs) g.R.Record.key_of g.R.Record.words_of (g.F.Family.hash_of c.args.family.now) s c.loop-k.k c.loop-k.invariant c.in-default.ensures
 
-pub returns-then-count-held-layout : goal.returns-then-count-held-layout
-returns-then-count-held-layout g c =
+pub returns-then-count_held-layout : goal.returns-then-count_held-layout
+returns-then-count_held-layout g c =
     let D = decoded g.R.Coded.kind g.R.Coded.end g.R.Coded.numbers_in g.R.Record.made in
     let bs = c.args.cells.now in
     let z = c.args.layout.size in
@@ -22,7 +22,7 @@ returns-then-count-held-layout g c =
     let u = c.used-used.ensures in (
       refl,
       all_end (lawful_at D bs) g.R.Record.key_of g.R.Record.words_of (g.F.Family.hash_of c.args.family.now) s c.loop-k.k (used_in z) c.loop-k.invariant (omega arith),
-      λ e. c.if-count-held-layout.true (c.count-held.ensures ∙ ap (λ n. count holding (take n (byte_row D bs))) u ∙ e),
+      λ e. c.if-count_held-layout.true (c.count_held.ensures ∙ ap (λ n. count holding (take n (byte_row D bs))) u ∙ e),
     )
 
 pub returns : goal.returns
@@ -33,5 +33,5 @@ returns g c =
     let s = table_of z c.args.layout.count (byte_row D bs) in
     let u = c.used-used.ensures in (
       all_end (lawful_at D bs) g.R.Record.key_of g.R.Record.words_of (g.F.Family.hash_of c.args.family.now) s c.loop-k.k (used_in z) c.loop-k.invariant (omega arith),
-      ap (λ n. count holding (take n (byte_row D bs))) (sym u) ∙ sym c.count-held.ensures ∙ c.if-count-held-layout.false,
+      ap (λ n. count holding (take n (byte_row D bs))) (sym u) ∙ sym c.count_held.ensures ∙ c.if-count_held-layout.false,
     )

@@ -10,11 +10,11 @@ pub loop-k-preserved : goal.loop-k-preserved
 loop-k-preserved g c =
     let row = byte_row (decoded g.R.Coded.kind g.R.Coded.end g.R.Coded.numbers_in g.R.Record.made) c.args.cells.now in
     let k = c.loop-k.k in
-    let at : c.cell-or-empty.result ≡ get_or row k Empty = c.cell-or-empty.ensures ∙ ap (λ n. get_or row n Empty) c.from.ensures in
+    let at : c.cell_or_empty.result ≡ get_or row k Empty = c.cell_or_empty.ensures ∙ ap (λ n. get_or row n Empty) c.from.ensures in
     let step = count_step holding row k Empty refl in
     let low = c.loop-k.invariant.0 in
     let so = c.loop-k.invariant.1 in
-    elim c.match-cell-or-empty.branch [
+    elim c.match-cell_or_empty.branch [
       | in-Holds w ↦
           let b : ◌≡◌ {A = ℕ} (cond (holding (get_or row k Empty)) 1 0) 1 = ap (λ x. cond {A = ℕ} (holding x) 1 0) (sym at ∙ w.in-Holds.is) in
           let e = w.held-is in

@@ -17,7 +17,7 @@ returns-in-Some g c =
     let found = c.in-Some.ensures in
     again (lawful_at D bs) g.R.Record.key_of g.R.Record.words_of (g.F.Family.hash_of c.args.family.now) s c.args.k r h
     c.words-words.result (c.words-words.ensures ∙ ap g.R.Record.words_of c.key.ensures)
-    (sym c.is-lawful.ensures ∙ c.if-not-is-lawful.false) c.if-not-is-own.ensures
+    (sym c.is_lawful.ensures ∙ c.if-not-is_lawful.false) c.if-not-is_own.ensures
     g.met.R.Record.apart c.in-Some.field-0.cell c.in-Some.field-0.held found.0.first.here.0 found.1
 
 pub returns-in-None : goal.returns-in-None
@@ -32,5 +32,5 @@ returns-in-None g c =
     let some : 0 < z.settings.cells = z.settings.some_cells in
     never (lawful_at D bs) g.R.Record.key_of g.R.Record.words_of (g.F.Family.hash_of c.args.family.now) s c.args.k r h
     c.words-words.result (c.words-words.ensures ∙ ap g.R.Record.words_of c.key.ensures)
-    (sym c.is-lawful.ensures ∙ c.if-not-is-lawful.false) c.if-not-is-own.ensures
+    (sym c.is_lawful.ensures ∙ c.if-not-is_lawful.false) c.if-not-is_own.ensures
     some c.requires.before c.in-None.ensures

@@ -20,9 +20,9 @@ returns g c =
     let n : p.start + (p.end - p.start) ≡ p.end = omega arith in
     let rest : drop (p.end - p.start) (drop p.start bs) ≡ drop p.end bs = drop-drop (p.end - p.start) p.start bs ∙ ap (λ k. drop k bs) n in
     record {
-      answer = c.bytes-write.ensures.answer ∙ ap (λ ys. write_of o (byte_row D ys) at) part;
+      answer = c.bytes_write.ensures.answer ∙ ap (λ ys. write_of o (byte_row D ys) at) part;
       inside = λ _ _.
-          ap (λ ys. take p.start bs ++ (ys ++ drop (p.end - p.start) (drop p.start bs))) (c.bytes-write.ensures.raw ∙ ap (λ ys. bytes_after E o ys at) part)
+          ap (λ ys. take p.start bs ++ (ys ++ drop (p.end - p.start) (drop p.start bs))) (c.bytes_write.ensures.raw ∙ ap (λ ys. bytes_after E o ys at) part)
           ∙ ap (λ zs. take p.start bs ++ (bytes_after E o (part_of bs p) at ++ zs)) rest;
       outside = λ no_part. absurd (no_part (a, b));
     }

@@ -4,8 +4,8 @@ use Rattle.octets.specs.Codec.{byte_row, decoded}
 use Rattle.octets.proofs.Frames.{row_length}
 use Rattle.octets.proofs.store.bytes_read.Goals as goal
 
-pub returns-then-at-bytes-length : goal.returns-then-at-bytes-length
-returns-then-at-bytes-length g c =
+pub returns-then-at-bytes_length : goal.returns-then-at-bytes_length
+returns-then-at-bytes_length g c =
     let D = decoded g.R.Coded.kind g.R.Coded.end g.R.Coded.numbers_in g.R.Record.made in
     let xs = byte_row D c.args.bytes.now in
     let e = row_length D c.args.bytes.now in
@@ -18,4 +18,4 @@ returns g c =
     let xs = byte_row D c.args.bytes.now in
     let e = row_length D c.args.bytes.now in
     let h : c.args.at < length xs = omega arith in
-    ap (λ o. Ok o) c.cell-or-empty.ensures ∙ sym (read_in xs c.args.at h)
+    ap (λ o. Ok o) c.cell_or_empty.ensures ∙ sym (read_in xs c.args.at h)

@@ -5,8 +5,8 @@ use Rattle.octets.specs.Codec.{byte_row, cells_of, decoded}
 use Rattle.octets.proofs.Frames.{row_length, row_get}
 use Rattle.octets.proofs.store.cell_or_empty.Goals as goal
 
-pub returns-then-at-bytes-length : goal.returns-then-at-bytes-length
-returns-then-at-bytes-length g c =
+pub returns-then-at-bytes_length : goal.returns-then-at-bytes_length
+returns-then-at-bytes_length g c =
     let D = decoded g.R.Coded.kind g.R.Coded.end g.R.Coded.numbers_in g.R.Record.made in
     let bs = c.args.bytes.now in
     let e = row_length D bs in
@@ -18,4 +18,4 @@ returns g c =
     let D = decoded g.R.Coded.kind g.R.Coded.end g.R.Coded.numbers_in g.R.Record.made in
     let bs = c.args.bytes.now in
     let k : c.args.at < cells_of bs = omega arith in
-    c.cell-at.ensures ∙ sym (row_get D bs c.args.at Empty k)
+    c.cell_at.ensures ∙ sym (row_get D bs c.args.at Empty k)

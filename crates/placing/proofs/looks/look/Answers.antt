@@ -4,8 +4,8 @@ use Rattle.placing.proofs.Vacancies.{Looking, looking_held, looking_empty, looki
 use Rattle.placing.proofs.looks.look.Goals as goal
 use Rattle.placing.proofs.looks.look.Goals.{in-None, in-Some+else-same}
 
-pub words-at-requires : goal.words-at-requires
-words-at-requires g c =
+pub words_at-requires : goal.words_at-requires
+words_at-requires g c =
     let f = g.P.Placing.placement c.args.p.now in
     let s : c.loop-slot.slot < f.cells = omega arith in
     simp c.slots-slots.ensures (cell_in f c.requires.lawful c.args.bucket c.loop-slot.slot c.requires.inside s).0
@@ -14,7 +14,7 @@ pub loop-slot-preserved : goal.loop-slot-preserved
 loop-slot-preserved g c =
     let f = g.P.Placing.placement c.args.p.now in
     let e = c.slots-slots.ensures in
-    elim c.match-words-at.branch [
+    elim c.match-words_at.branch [
       | in-Some+else-same w ↦
           let h = unmapped_some f.words _ w.in-Some.found (sym (simp e at w.in-Some.ensures)) in
           looking_gap f c.args.bucket c.args.words.now _ _ _ w.gap-is (looking_held f c.args.bucket c.args.words.now _ _ _ c.loop-slot.invariant h.0 h.1 (λ k. w.if-same.ensures (sym h.2 ∙ k)))

@@ -1,10 +1,10 @@
-use Rattle.std.proofs.Common.{◌≡◌, ◌<◌, ◌≤◌, true, false, length, get_or, sym, refl, ap, ◌∙◌, arith}
+use Rattle.std.proofs.Common.{◌≡◌, ◌<◌, ◌≤◌, true, false, length, get_or, sym, ◌∙◌, arith}
 use Rattle.records.specs.Plates.{character}
 use Rattle.records.proofs.Runs.{names_step, names_stop, names_end}
 use Rattle.records.proofs.characters.all_characters.Goals as goal
 
-pub returns-then-not-is-character : goal.returns-then-not-is-character
-returns-then-not-is-character c =
+pub returns-then-not-is_character : goal.returns-then-not-is_character
+returns-then-not-is_character c =
     let h : c.loop-i.i < length c.args.bytes.now = omega arith in
     let z : character (get_or c.args.bytes.now c.loop-i.i 0) ≡ false = cc in
     sym (names_stop c.args.bytes.now c.loop-i.i h z) ∙ c.loop-i.invariant

@@ -1,4 +1,4 @@
-use Rattle.std.proofs.Common.{◌≡◌, ◌<◌, ◌≤◌, true, false, length, get_or, sym, refl, ap, ◌∙◌, arith}
+use Rattle.std.proofs.Common.{◌≡◌, ◌<◌, ◌≤◌, true, false, length, get_or, sym, ◌∙◌, arith}
 use Rattle.records.specs.Plates.{character}
 use Rattle.records.proofs.Runs.{ended_step, ended_stop, ended_end, plate_first, plate_not, plate_none}
 use Rattle.records.proofs.characters.is_padded.Goals as goal
@@ -6,8 +6,8 @@ use Rattle.records.proofs.characters.is_padded.Goals as goal
 pub returns-then-bytes-eq0 : goal.returns-then-bytes-eq0
 returns-then-bytes-eq0 c = let h : length c.args.bytes.now ≡ 0 = omega arith in sym (plate_none c.args.bytes.now h)
 
-pub returns-then-not-is-character : goal.returns-then-not-is-character
-returns-then-not-is-character c =
+pub returns-then-not-is_character : goal.returns-then-not-is_character
+returns-then-not-is_character c =
     let h : 0 < length c.args.bytes.now = omega arith in
     let z : character (get_or c.args.bytes.now 0 0) ≡ false = cc in
     sym (plate_not c.args.bytes.now h z)
@@ -18,11 +18,11 @@ loop-i-init c =
     let z : character (get_or c.args.bytes.now 0 0) ≡ true = cc in
     sym (plate_first c.args.bytes.now h z)
 
-pub returns-then-not-is-character-2 : goal.returns-then-not-is-character-2
-returns-then-not-is-character-2 c =
+pub returns-then-not-is_character-2 : goal.returns-then-not-is_character-2
+returns-then-not-is_character-2 c =
     let h : c.loop-i.i < length c.args.bytes.now = omega arith in
     let z : character (get_or c.args.bytes.now c.loop-i.i 0) ≡ false = cc in
-    c.all-are.ensures ∙ sym (ended_stop c.args.bytes.now c.loop-i.i h z) ∙ c.loop-i.invariant
+    c.all_are.ensures ∙ sym (ended_stop c.args.bytes.now c.loop-i.i h z) ∙ c.loop-i.invariant
 
 pub loop-i-preserved : goal.loop-i-preserved
 loop-i-preserved c =

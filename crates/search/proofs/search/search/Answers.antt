@@ -11,8 +11,8 @@ use Rattle.search.proofs.Turns.{bfs_row, bfs_skip, bfs_turn}
 use Rattle.search.proofs.search.search.Goals as goal
 use Rattle.search.proofs.search.search.Goals.{then-came-next-eq0+in-default, else-came-next-eq0}
 
-pub word-at-held-requires : goal.word-at-held-requires
-word-at-held-requires g c =
+pub word_at-held-requires : goal.word_at-held-requires
+word_at-held-requires g c =
     let f = g.P.Placing.placement c.args.p.now in
     let b = c.search.invariant.0.lined.buckets c.search.head c.if-head-tail.false in
     let s : c.loop-slot.slot < f.cells = omega arith in
@@ -22,7 +22,7 @@ pub bounds-queue-tail : goal.bounds-queue-tail
 bounds-queue-tail g c =
     let f = g.P.Placing.placement c.args.p.now in
     let b = c.search.invariant.0.lined.buckets c.search.head c.if-head-tail.false in
-    let e = next_is f _ c.loop-slot.slot c.loop-choice.choice _ _ _ (ap (λ n. get_or c.search.queue c.search.head 0 * n + c.loop-slot.slot) c.slots-slots.ensures) c.word-at-held.ensures c.leads-next.ensures in
+    let e = next_is f _ c.loop-slot.slot c.loop-choice.choice _ _ _ (ap (λ n. get_or c.search.queue c.search.head 0 * n + c.loop-slot.slot) c.slots-slots.ensures) c.word_at-held.ensures c.leads-next.ensures in
     let i = within f c.requires.lawful _ c.loop-slot.slot c.loop-choice.choice b (omega arith) (omega arith) in
     let t = lined_room _ _ _ _ _ c.loop-choice.invariant.0.lined c.leads-next.result (omega arith) (omega arith) c.if-came-next-eq0.true in
     omega arith
@@ -35,7 +35,7 @@ loop-choice-preserved g c =
     let i = within f c.requires.lawful _ c.loop-slot.slot c.loop-choice.choice b (omega arith) (omega arith) in
     let pe = c.loop-choice.invariant.2 in
     let ce = ap (λ n. get_or c.search.queue c.search.head 0 * n + c.loop-slot.slot) c.slots-slots.ensures in
-    let e = next_is f _ c.loop-slot.slot c.loop-choice.choice _ _ _ ce c.word-at-held.ensures c.leads-next.ensures in
+    let e = next_is f _ c.loop-slot.slot c.loop-choice.choice _ _ _ ce c.word_at-held.ensures c.leads-next.ensures in
     let qe = ap (λ y. n.next y c.loop-slot.slot c.loop-choice.choice) (sym pe) ∙ e in
     let ve = ap (λ y. 2 + y) (ce ∙ ap (λ y. y * f.cells + c.loop-slot.slot) pe) in
     elim c.if-came-next-eq0.branch [
@@ -69,7 +69,7 @@ returns-in-Some g c =
     let i = within f c.requires.lawful _ c.loop-slot.slot c.loop-choice.choice b (omega arith) (omega arith) in
     let pe = c.loop-choice.invariant.2 in
     let ce = ap (λ n. get_or c.search.queue c.search.head 0 * n + c.loop-slot.slot) c.slots-slots.ensures in
-    let e = next_is f _ c.loop-slot.slot c.loop-choice.choice _ _ _ ce c.word-at-held.ensures c.leads-next.ensures in
+    let e = next_is f _ c.loop-slot.slot c.loop-choice.choice _ _ _ ce c.word_at-held.ensures c.leads-next.ensures in
     let qe = ap (λ y. (net_of f).next y c.loop-slot.slot c.loop-choice.choice) (sym pe) ∙ e in
     let ve = ap (λ y. 2 + y) (ce ∙ ap (λ y. y * f.cells + c.loop-slot.slot) pe) in
     searched_some f c.args.word _ _

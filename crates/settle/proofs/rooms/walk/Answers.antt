@@ -5,8 +5,8 @@ use Rattle.settle.proofs.rooms.walk.Goals as goal
 pub loop-bucket-init : goal.loop-bucket-init
 loop-bucket-init g c = (refl, walking_none _ _ _ _ _ c.requires.empty c.requires.below c.requires.inside c.requires.trail (wrote_none _ _ _), refl, refl)
 
-pub overflow-sub-from : goal.overflow-sub-from
-overflow-sub-from g c = marked _ _ c.requires.lawful _ _ _ _ _ _ c.loop-bucket.invariant.1 c.loop-bucket-test.true
+pub overflow_sub-from : goal.overflow_sub-from
+overflow_sub-from g c = marked _ _ c.requires.lawful _ _ _ _ _ _ c.loop-bucket.invariant.1 c.loop-bucket-test.true
 
 pub copy-requires : goal.copy-requires
 copy-requires g c =
@@ -17,8 +17,8 @@ copy-requires g c =
     let k = w.below in
     record { from = omega arith; to = omega arith }
 
-pub overflow-add-moves : goal.overflow-add-moves
-overflow-add-moves g c =
+pub overflow_add-moves : goal.overflow_add-moves
+overflow_add-moves g c =
     let k = few_moves _ _ _ _ _ _ _ _ c.loop-bucket.invariant.1 in
     let l = c.requires.lawful.few in
     omega arith

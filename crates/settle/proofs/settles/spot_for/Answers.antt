@@ -17,8 +17,8 @@ returns-then-best-gt0 g c =
       code = refl;
     }
 
-pub make-room-requires : goal.make-room-requires
-make-room-requires g c =
+pub make_room-requires : goal.make_room-requires
+make_room-requires g c =
     let f = g.P.Placing.placement c.args.p.now in
     let k = c.survey.ensures.best c.in-Some.best c.in-Some.is in
     record {
@@ -28,26 +28,26 @@ make-room-requires g c =
       full = λ i il. subst (λ v. vacant f (f.lies v i) ≡ 0) (sym c.hash-word.ensures) (all_full f _ c.in-Some.best k c.if-best-gt0.false i il);
     }
 
-pub returns-in-Some-make-room : goal.returns-in-Some-make-room
-returns-in-Some-make-room g c =
+pub returns-in-Some-make_room : goal.returns-in-Some-make_room
+returns-in-Some-make_room g c =
     let k = c.survey.ensures in
     record {
-      placement = c.make-room.ensures.placement;
+      placement = c.make_room.ensures.placement;
       settled =
           made_way _ _ _ _ (k.absent c.in-Some.best c.in-Some.is) c.hash-word.result c.hash-word.ensures c.in-Some.best (k.best c.in-Some.best c.in-Some.is)
-          c.if-best-gt0.false c.make-room.result _ c.make-room.ensures.roomed c.in-Some-make-room.is;
-      place = c.make-room.ensures.place;
-      code = c.make-room.ensures.code;
+          c.if-best-gt0.false c.make_room.result _ c.make_room.ensures.roomed c.in-Some-make_room.is;
+      place = c.make_room.ensures.place;
+      code = c.make_room.ensures.code;
     }
 
 pub returns-in-None : goal.returns-in-None
 returns-in-None g c =
     let k = c.survey.ensures in
     record {
-      placement = c.make-room.ensures.placement;
+      placement = c.make_room.ensures.placement;
       settled =
-          blocked_off _ _ _ _ (k.absent c.in-Some.best c.in-Some.is) c.hash-word.result c.hash-word.ensures c.make-room.result c.make-room.ensures.roomed
+          blocked_off _ _ _ _ (k.absent c.in-Some.best c.in-Some.is) c.hash-word.result c.hash-word.ensures c.make_room.result c.make_room.ensures.roomed
           c.in-None.is;
-      place = c.make-room.ensures.place;
-      code = c.make-room.ensures.code;
+      place = c.make_room.ensures.place;
+      code = c.make_room.ensures.code;
     }

@@ -3,8 +3,8 @@ use Rattle.stores.specs.Cells.{row}
 use Rattle.stores.proofs.Rows.{row_length, row_get, read_in, read_out}
 use Rattle.stores.proofs.plain.slice_read.Goals as goal
 
-pub returns-then-at-slice-length : goal.returns-then-at-slice-length
-returns-then-at-slice-length g c =
+pub returns-then-at-slice_length : goal.returns-then-at-slice_length
+returns-then-at-slice_length g c =
     let e = row_length g.R.Record.made c.args.cells.now in
     let h : length (row g.R.Record.made c.args.cells.now) ≤ c.args.at = omega arith in
     sym (read_out _ c.args.at h)
@@ -17,4 +17,4 @@ returns g c =
     let k : c.args.at < min (2 ^ 40) (length c.args.cells.now) = omega arith in
     let got = row_get f c.args.cells.now c.args.at c.index-cells-at.result k in
     let there = read_in (row f c.args.cells.now) c.args.at h in
-    cc (c.meant-cell.ensures, c.index-cells-at.is)
+    cc (c.meant_cell.ensures, c.index-cells-at.is)

@@ -4,12 +4,12 @@ use Rattle.stores.specs.Cells.{after, asked, or_empty, row, write_of}
 use Rattle.stores.proofs.Rows.{row_length, row_set, write_in, write_out}
 use Rattle.stores.proofs.plain.slice_write.Goals as goal
 
-pub returns-then-at-slice-length : goal.returns-then-at-slice-length
-returns-then-at-slice-length g c =
+pub returns-then-at-slice_length : goal.returns-then-at-slice_length
+returns-then-at-slice_length g c =
     let f = g.R.Record.made in
     let xs = row f c.args.cells.now in
-    let v = c.in-ok-asked-cell.field-0 in
-    let o : asked f c.args.cell.now ≡ Ok v = sym c.asked-cell.ensures ∙ c.in-ok-asked-cell.was in
+    let v = c.in_ok-asked_cell.field-0 in
+    let o : asked f c.args.cell.now ≡ Ok v = sym c.asked_cell.ensures ∙ c.in_ok-asked_cell.was in
     let e = row_length f c.args.cells.now in
     let h : length xs ≤ c.args.at = omega arith in
     record {
@@ -18,15 +18,15 @@ returns-then-at-slice-length g c =
       raw = refl;
     }
 
-pub offset-bounds-cells-at : goal.offset-bounds-cells-at
-offset-bounds-cells-at g c = let h : c.args.at < length c.args.cells.now = omega arith in search rules
+pub offset_bounds-cells-at : goal.offset_bounds-cells-at
+offset_bounds-cells-at g c = let h : c.args.at < length c.args.cells.now = omega arith in search rules
 
 pub returns : goal.returns
 returns g c =
     let f = g.R.Record.made in
     let xs = row f c.args.cells.now in
-    let v = c.in-ok-asked-cell.field-0 in
-    let o : asked f c.args.cell.now ≡ Ok v = sym c.asked-cell.ensures ∙ c.in-ok-asked-cell.was in
+    let v = c.in_ok-asked_cell.field-0 in
+    let o : asked f c.args.cell.now ≡ Ok v = sym c.asked_cell.ensures ∙ c.in_ok-asked_cell.was in
     let e = row_length f c.args.cells.now in
     let h : c.args.at < length xs = omega arith in
     record {

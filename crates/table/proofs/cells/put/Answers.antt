@@ -7,7 +7,7 @@ use Rattle.table.proofs.cells.put.Goals as goal
 pub returns : goal.returns
 returns g c =
     let cs = g.S.Store.cells c.args.store.now in
-    let a = ap (asked g.R.Record.made) c.numbers-of-numbers.ensures ∙ asked_again g.R.Record.made g.R.Record.numbers_of g.met.R.Record.again c.args.held in
+    let a = ap (asked g.R.Record.made) c.numbers_of-numbers.ensures ∙ asked_again g.R.Record.made g.R.Record.numbers_of g.met.R.Record.again c.args.held in
     let e = c.write.ensures.cells ∙ ap (λ o. after {R = g.row.R.Denot} o cs c.args.cell) a in
     record {
       cells = e;

@@ -5,7 +5,7 @@ use Rattle.table.proofs.make.make.Goals as goal
 
 pub returns : goal.returns
 returns g c =
-    let n = c.in-ok-settings.ensures in
+    let n = c.in_ok-settings.ensures in
     let f = c.first-size.ensures in
     let z = c.first-size.result in
     let et = ap (λ (q : Settings). q.t) f.0 ∙ n.1.0 in
@@ -16,7 +16,7 @@ returns g c =
     let fx = f.1 ∙ n.1.3 in
     let eu = ap₂ (λ m n. m * n) c.buckets.ensures.number (sym eb) in
     let reach : c.buckets.result * c.args.bucket ≤ length (g.S.Store.cells c.args.store.now) = omega arith in
-    let e = c.empty-cells.ensures in
+    let e = c.empty_cells.ensures in
     record {
       made = makes c.args.t c.args.bucket c.args.choices c.args.start c.args.load z et eb eh ex ed fx f.2 _ _ _ _ _ _ eu n.0 reach e.emptied e.wrote;
       sound = λ hash. new_sound c.args.t c.args.bucket c.args.choices c.args.start c.args.load z et eb eh ex ed fx f.2 _ _ _ _ _ _ eu n.0 reach e.emptied e.wrote g.R.Record.key_of g.R.Record.words_of hash;

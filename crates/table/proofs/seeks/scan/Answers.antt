@@ -10,16 +10,16 @@ loop-cell-init g c = λ k r l h. absurd (omega arith)
 
 pub loop-cell-preserved : goal.loop-cell-preserved
 loop-cell-preserved g c =
-    elim c.match-held-at.branch [
+    elim c.match-held_at.branch [
       | in-Holds+else-same w ↦
-          none_other _ _ _ _ _ w.in-Holds.held c.loop-cell.invariant (sym c.held-at.ensures ∙ w.in-Holds.is)
+          none_other _ _ _ _ _ w.in-Holds.held c.loop-cell.invariant (sym c.held_at.ensures ∙ w.in-Holds.is)
           (λ e. w.if-same.ensures (w.words.ensures ∙ ap g.R.Record.words_of w.key.ensures ∙ e))
-      | in-default w ↦ none_empty _ _ _ _ _ c.loop-cell.invariant (sym c.held-at.ensures ∙ cell_rest _ w.in-default.not-Holds)
+      | in-default w ↦ none_empty _ _ _ _ _ c.loop-cell.invariant (sym c.held_at.ensures ∙ cell_rest _ w.in-default.not-Holds)
     ]
 
 pub returns-then-same : goal.returns-then-same
 returns-then-same g c =
-    scanned_some _ _ _ _ _ _ (omega arith) (omega arith) (sym c.held-at.ensures ∙ c.in-Holds.is)
+    scanned_some _ _ _ _ _ _ (omega arith) (omega arith) (sym c.held_at.ensures ∙ c.in-Holds.is)
     (sym (c.words.ensures ∙ ap g.R.Record.words_of c.key.ensures) ∙ c.if-same.ensures)
 
 pub returns : goal.returns

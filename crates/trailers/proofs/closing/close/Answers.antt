@@ -13,7 +13,7 @@ returns c =
       size = record { range = (z.settings.few_subtables, z.settings.some_cells, z.settings.few_cells, z.settings.two_choices, z.settings.few_choices, z.settings.small_start, z.settings.load_below); floor = z.floor; below = z.below; room = z.room };
       placed = c.if-not-fits.ensures;
     } in
-    let e = c.write-trailer.ensures in
+    let e = c.write_trailer.ensures in
     let few : 2 ^ z.settings.t ≤ 2 ^ 6 = pow_mono z.settings.few_subtables in
     let below = z.below in
     let k = closed_lawful bs m (omega arith) (omega arith) (omega arith) l in

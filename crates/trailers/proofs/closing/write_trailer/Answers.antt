@@ -8,5 +8,5 @@ returns c =
     let b = length bs - 32 in
     let k : length bs ≤ b + ((b + 32) - b) = omega arith in
     let none : drop ((b + 32) - b) (drop b bs) ≡ [] = drop-drop ((b + 32) - b) b bs ∙ drop_all (b + ((b + 32) - b)) bs k in
-    ap (λ zs. take b bs ++ (c.copy-from-slice.new.self ++ zs)) none
-    ∙ ap (λ ys. take b bs ++ ys) (append-nil c.copy-from-slice.new.self ∙ c.copy-from-slice.ensures.after ∙ c.trailer-bytes-code.ensures)
+    ap (λ zs. take b bs ++ (c.copy_from_slice.new.self ++ zs)) none
+    ∙ ap (λ ys. take b bs ++ ys) (append-nil c.copy_from_slice.new.self ∙ c.copy_from_slice.ensures.after ∙ c.trailer_bytes-code.ensures)

@@ -10,8 +10,8 @@ returns-then-b-eq0 c =
     let b = below z.settings.t z.x z.j c.args.g c.args.b (lawful z) c.requires.subtable c.requires.bucket in
     record { number = grind arith; below = grind arith }
 
-pub overflow-add-result-2 : goal.overflow-add-result-2
-overflow-add-result-2 c =
+pub overflow_add-result-2 : goal.overflow_add-result-2
+overflow_add-result-2 c =
     let z = c.args.self in
     let room = z.room in
     let b = below z.settings.t z.x z.j c.args.g c.args.b (lawful z) c.requires.subtable c.requires.bucket in

@@ -3,8 +3,8 @@ use Rattle.addresses.specs.Ranges.{buckets}
 use Rattle.addresses.proofs.Computed.{fewer}
 use Rattle.addresses.proofs.sizes.Size.shrunk.Goals as goal
 
-pub invariant-of-result-then-self : goal.invariant-of-result-then-self
-invariant-of-result-then-self c =
+pub invariant_of-result-then-self : goal.invariant_of-result-then-self
+invariant_of-result-then-self c =
     let z = c.args.self in
     let f = fewer z.settings.t z.x (omega arith) in
     let j : z.j ≡ 0 = omega arith in

@@ -7,9 +7,9 @@ use Rattle.octets.proofs.kinds.TagRecordCoded.numbers_in.Goals as goal
 pub returns : goal.returns
 returns c =
     let xs = c.args.bytes.now in
-    let f : (i : ℕ) → get_or xs i 0 < 256 = λ i. omega (arith, c.type-inv.bytes i) in
-    let t = c.u64-at.ensures in
-    let g = c.u32-at.ensures in
-    let k = c.byte-at.ensures in
-    let e : record { tag = c.u64-at.result; grower = c.u32-at.result; grain = c.byte-at.result } ≡ tag_in xs = λ i. record { tag = t i; grower = g i; grain = k i } in
+    let f : (i : ℕ) → get_or xs i 0 < 256 = λ i. omega (arith, c.type_inv.bytes i) in
+    let t = c.u64_at.ensures in
+    let g = c.u32_at.ensures in
+    let k = c.byte_at.ensures in
+    let e : record { tag = c.u64_at.result; grower = c.u32_at.result; grain = c.byte_at.result } ≡ tag_in xs = λ i. record { tag = t i; grower = g i; grain = k i } in
     record { value = e; back = λ l h. ap tag_fields e ∙ tag_back xs l f h }

@@ -6,4 +6,4 @@ use Rattle.octets.proofs.store.ByteStoreStore.length.Goals as goal
 pub returns : goal.returns
 returns g c =
     let e = row_length (decoded g.R.Coded.kind g.R.Coded.end g.R.Coded.numbers_in g.R.Record.made) c.args.self.now.bytes.now in
-    record { value = c.bytes-length.ensures ∙ sym e; bound = omega (arith, c.bytes-length.ensures) }
+    record { value = c.bytes_length.ensures ∙ sym e; bound = omega (arith, c.bytes_length.ensures) }

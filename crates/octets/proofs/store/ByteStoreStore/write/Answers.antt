@@ -10,8 +10,8 @@ pub returns : goal.returns
 returns g c =
     let bs = c.args.self.now.bytes.now in
     let at = c.args.at in
-    let r = c.bytes-write.result in
-    let w = c.bytes-write.ensures in
+    let r = c.bytes_write.result in
+    let w = c.bytes_write.ensures in
     let o = asked g.R.Record.made c.args.cell.now in
     let D = decoded g.R.Coded.kind g.R.Coded.end g.R.Coded.numbers_in g.R.Record.made in
     let E = encoded g.R.Coded.kind g.R.Coded.fields g.R.Record.numbers_of in

@@ -3,11 +3,11 @@ use Rattle.std.proofs.lemmas.Bool.{both_ways}
 use Rattle.records.specs.Plates.{is_plate, plate_in}
 use Rattle.records.proofs.plates.Plate.from_parts.Goals as goal
 
-pub invariant-of-result : goal.invariant-of-result
+pub invariant_of-result : goal.invariant_of-result
 unfolding is_plate
-invariant-of-result c = (sym (ap plate_in c.spelled-bytes.ensures) ∙ sym c.is-padded.ensures ∙ c.if-is-padded.true, tt)
+invariant_of-result c = record { lawful = sym (ap plate_in c.spelled-bytes.ensures) ∙ sym c.is_padded.ensures ∙ c.if-is_padded.true }
 
-pub returns-else-is-padded : goal.returns-else-is-padded
+pub returns-else-is_padded : goal.returns-else-is_padded
 unfolding is_plate
-returns-else-is-padded c =
-    (λ h. both_ways (is_plate c.args.first c.args.second) (sym (ap plate_in c.spelled-bytes.ensures) ∙ sym c.is-padded.ensures ∙ c.if-is-padded.false) h, refl)
+returns-else-is_padded c =
+    (λ h. both_ways (is_plate c.args.first c.args.second) (sym (ap plate_in c.spelled-bytes.ensures) ∙ sym c.is_padded.ensures ∙ c.if-is_padded.false) h, refl)

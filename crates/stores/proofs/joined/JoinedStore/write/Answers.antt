@@ -15,7 +15,7 @@ returns-then-at-whole g c =
     let e = joined_length (2 ^ 40) xs ys in
     let h : length (take (2 ^ 40) (xs ++ ys)) ≤ at = omega arith in
     record {
-      answer = write_past o _ (take (2 ^ 40) (xs ++ ys)) at (sym c.asked-cell.ensures ∙ c.in-ok-asked-cell.was) h;
+      answer = write_past o _ (take (2 ^ 40) (xs ++ ys)) at (sym c.asked_cell.ensures ∙ c.in_ok-asked_cell.was) h;
       cells = after_past o (take (2 ^ 40) (xs ++ ys)) at h;
       place = refl;
       others = λ k _. refl;

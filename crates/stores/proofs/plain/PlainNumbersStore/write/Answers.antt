@@ -9,8 +9,8 @@ pub returns : goal.returns
 returns g c =
     let cs = c.args.self.now.cells.now in
     let at = c.args.at in
-    let r = c.slice-write.result in
-    let w = c.slice-write.ensures in
+    let r = c.slice_write.result in
+    let w = c.slice_write.ensures in
     record {
       answer = w.answer;
       cells = w.cells;

@@ -25,7 +25,7 @@ returns g c =
     let m : at < len = omega arith in
     c.read.ensures ∙ read_same xs (take len (drop start xs)) (start + at) at h k (window_get start len xs at m)
 
-pub overflow-add-self : goal.overflow-add-self
-overflow-add-self g c =
+pub overflow_add-self : goal.overflow_add-self
+overflow_add-self g c =
     let e = window_length c.args.self.now.start c.args.self.now.len (g.S.Store.cells c.args.self.now.inner) in
     omega arith

@@ -14,7 +14,7 @@ returns-then-at-whole g c =
     let e = window_length start len xs in
     let h : length (take len (drop start xs)) ≤ at = omega arith in
     record {
-      answer = write_past o _ (take len (drop start xs)) at (sym c.asked-cell.ensures ∙ c.in-ok-asked-cell.was) h;
+      answer = write_past o _ (take len (drop start xs)) at (sym c.asked_cell.ensures ∙ c.in_ok-asked_cell.was) h;
       cells = after_past o (take len (drop start xs)) at h;
       place = refl;
       others = λ k _. refl;
@@ -54,7 +54,7 @@ returns g c =
       codes = λ k v. w.codes (start + k) v;
     }
 
-pub overflow-add-self : goal.overflow-add-self
-overflow-add-self g c =
+pub overflow_add-self : goal.overflow_add-self
+overflow_add-self g c =
     let e = window_length c.args.self.now.start c.args.self.now.len (g.S.Store.cells c.args.self.now.inner) in
     omega arith

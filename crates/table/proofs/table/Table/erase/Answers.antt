@@ -12,9 +12,9 @@ returns g c =
     let raw' = g.S.Store.raw c.put.new.store in
     let p = c.put.ensures in
     record {
-      erased = erases g.R.Record.key_of g.R.Record.words_of hash s c.args.key c.seek.result c.seek.ensures code raw raw' c.in-Some.hit c.in-Some.is _ refl c.saturating-sub-self.ensures p.cells p.others p.made;
-      sound = erased_sound g.R.Record.key_of g.R.Record.words_of hash s c.args.key c.seek.result c.seek.ensures code raw raw' c.in-Some.hit c.in-Some.is _ refl c.saturating-sub-self.ensures p.cells p.others p.made;
-      kept = erased_kept g.R.Record.key_of g.R.Record.words_of hash s c.args.key c.seek.result c.seek.ensures code raw raw' c.in-Some.hit c.in-Some.is _ refl c.saturating-sub-self.ensures p.cells p.others p.made;
+      erased = erases g.R.Record.key_of g.R.Record.words_of hash s c.args.key c.seek.result c.seek.ensures code raw raw' c.in-Some.hit c.in-Some.is _ refl c.saturating_sub-self.ensures p.cells p.others p.made;
+      sound = erased_sound g.R.Record.key_of g.R.Record.words_of hash s c.args.key c.seek.result c.seek.ensures code raw raw' c.in-Some.hit c.in-Some.is _ refl c.saturating_sub-self.ensures p.cells p.others p.made;
+      kept = erased_kept g.R.Record.key_of g.R.Record.words_of hash s c.args.key c.seek.result c.seek.ensures code raw raw' c.in-Some.hit c.in-Some.is _ refl c.saturating_sub-self.ensures p.cells p.others p.made;
       size = refl;
       family = refl;
       place = p.place;

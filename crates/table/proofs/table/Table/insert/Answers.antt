@@ -19,20 +19,20 @@ returns-in-Ok g c =
     let s = state_of g.S.Store.cells c.args.self.now in
     let code = g.S.Store.code c.args.self.now.store in
     let raw = g.S.Store.raw c.args.self.now.store in
-    let raw' = g.S.Store.raw c.settle-in.new.store in
+    let raw' = g.S.Store.raw c.settle_in.new.store in
     let raw'' = g.S.Store.raw c.put.new.store in
-    let mid = g.S.Store.cells c.settle-in.new.store in
+    let mid = g.S.Store.cells c.settle_in.new.store in
     let p = c.put.ensures in
-    let k = c.settle-in.ensures in
+    let k = c.settle_in.ensures in
     let ew = c.words-words.ensures ∙ ap words c.key.ensures in
-    let r = (subst (λ w. Settled (placement_in key words hash s) w mid (Wrote code raw raw' mid) c.settle-in.result) ew k.settled).ready c.in-Ok.spot c.in-Ok.is in
+    let r = (subst (λ w. Settled (placement_in key words hash s) w mid (Wrote code raw raw' mid) c.settle_in.result) ew k.settled).ready c.in-Ok.spot c.in-Ok.is in
     let lv : buckets_in s.size ≤ length c.args.queue.now = omega arith in
     let lw : buckets_in s.size ≤ length c.args.came.now = omega arith in
     let reach = reach_of s.size c.buckets-buckets.result _ _ c.buckets-buckets.ensures.number c.if-length-buckets.false c.length.ensures.value in
-    let u = state_of g.S.Store.cells (record { size = s.size; count = c.saturating-add-self.result; family = c.args.self.now.family; store = c.put.new.store }) in
+    let u = state_of g.S.Store.cells (record { size = s.size; count = c.saturating_add-self.result; family = c.args.self.now.family; store = c.put.new.store }) in
     record {
-      inserted = λ sound. inserts_ok key words hash s c.args.added (length c.args.queue.now) (length c.args.came.now) lv lw code raw raw' raw'' mid c.in-Ok.spot r u reach refl p.cells p.others (λ l. p.made l ∙ ap (λ q. q c.in-Ok.spot.cell (Holds c.args.added)) k.code) g.met.R.Record.apart sound (one_more key words hash s sound _ c.saturating-add-self.ensures);
-      sound = λ sound. inserted_sound key words hash s c.args.added (length c.args.queue.now) (length c.args.came.now) lv lw code raw raw' raw'' mid c.in-Ok.spot r u reach refl p.cells p.others (λ l. p.made l ∙ ap (λ q. q c.in-Ok.spot.cell (Holds c.args.added)) k.code) g.met.R.Record.apart sound (one_more key words hash s sound _ c.saturating-add-self.ensures);
+      inserted = λ sound. inserts_ok key words hash s c.args.added (length c.args.queue.now) (length c.args.came.now) lv lw code raw raw' raw'' mid c.in-Ok.spot r u reach refl p.cells p.others (λ l. p.made l ∙ ap (λ q. q c.in-Ok.spot.cell (Holds c.args.added)) k.code) g.met.R.Record.apart sound (one_more key words hash s sound _ c.saturating_add-self.ensures);
+      sound = λ sound. inserted_sound key words hash s c.args.added (length c.args.queue.now) (length c.args.came.now) lv lw code raw raw' raw'' mid c.in-Ok.spot r u reach refl p.cells p.others (λ l. p.made l ∙ ap (λ q. q c.in-Ok.spot.cell (Holds c.args.added)) k.code) g.met.R.Record.apart sound (one_more key words hash s sound _ c.saturating_add-self.ensures);
       queue = cleared _ _ _ (λ e. omega arith) k.queue;
       came = cleared _ _ _ (λ e. omega arith) k.came;
       kept = inserted_kept key words hash s c.args.added (length c.args.queue.now) (length c.args.came.now) lv lw code raw raw' raw'' mid c.in-Ok.spot r u reach refl p.cells p.others (λ l. p.made l ∙ ap (λ q. q c.in-Ok.spot.cell (Holds c.args.added)) k.code);
@@ -50,11 +50,11 @@ returns-in-Err g c =
     let s = state_of g.S.Store.cells c.args.self.now in
     let code = g.S.Store.code c.args.self.now.store in
     let raw = g.S.Store.raw c.args.self.now.store in
-    let raw' = g.S.Store.raw c.settle-in.new.store in
-    let mid = g.S.Store.cells c.settle-in.new.store in
-    let k = c.settle-in.ensures in
+    let raw' = g.S.Store.raw c.settle_in.new.store in
+    let mid = g.S.Store.cells c.settle_in.new.store in
+    let k = c.settle_in.ensures in
     let ew = c.words-words.ensures ∙ ap words c.key.ensures in
-    let r = (subst (λ w. Settled (placement_in key words hash s) w mid (Wrote code raw raw' mid) c.settle-in.result) ew k.settled).refused c.in-Err.decline c.in-Err.is in
+    let r = (subst (λ w. Settled (placement_in key words hash s) w mid (Wrote code raw raw' mid) c.settle_in.result) ew k.settled).refused c.in-Err.decline c.in-Err.is in
     let lv : buckets_in s.size ≤ length c.args.queue.now = omega arith in
     let lw : buckets_in s.size ≤ length c.args.came.now = omega arith in
     let same = same_state {s = record { size = s.size; count = s.count; cells = mid }} {u = s} refl refl r.cells in
