@@ -1,12 +1,11 @@
 -- What a grow leaves, and what it adds.
-use Rattle.std.proofs.Common.{◌≡◌, ℕ, suc, ◌+◌, ◌-◌, ◌*◌, ◌/◌, ◌%◌, ◌^◌, ◌<◌, ◌≤◌, Bool, true, false, cond, ◌&&◌, eqb, ltb, ◌⊎◌, sym, refl, ap, ◌∙◌, ap₂, inl, inr, mod-lt, mul_assoc, mul_comm, add-mul, one-mul, zero-mul, mul-add, arith, pow_mono}
-use native.Mathlib.Nat.{two-pow-succ}
-use Rattle.std.proofs.lemmas.Nat.{pow_pos, mul-le, mod-pow-add, mod_below}
+use Rattle.std.proofs.Common.{◌≡◌, ℕ, ◌+◌, ◌-◌, ◌*◌, ◌/◌, ◌%◌, ◌^◌, ◌<◌, ◌≤◌, false, cond, ◌&&◌, eqb, ltb, sym, ap, ◌∙◌, ap₂, inl, inr, add-mul, mul-add, arith, pow_mono}
+use Rattle.std.proofs.lemmas.Nat.{pow_pos, mod-pow-add, mod_below}
 use Rattle.std.proofs.lemmas.Bool.{cases_eq, cases_lt, cases_Bool, cond-true, cond-false, and_left, and_right, and_from, and_parts, ne_eqb, eq-eqb, eqb-true, lt-ltb, le-ltb}
 use Rattle.addresses.specs.Ranges.{buckets}
-use Rattle.addresses.specs.Positions.{subtable_of, bucket_of, highest, position_of, place, width_of, grown_x, grown_j, whole}
+use Rattle.addresses.specs.Positions.{subtable_of, bucket_of, position_of, place, width_of, grown_x, grown_j, whole}
 use Rattle.addresses.proofs.Stated.{Added, Moved, Within, Merged, Lawful}
-use Rattle.addresses.proofs.Bounds.{x_small, exponent_lt, one_less, twice, subtable_lt}
+use Rattle.addresses.proofs.Bounds.{x_small, twice, subtable_lt}
 use Rattle.addresses.proofs.Extents.{in_extent, below, Top}
 
 -- bucket b + 2 ^ x of subtable g

@@ -1,13 +1,12 @@
 -- Rows of cells: reads and writes inside and past the end, and the cells of a slice.
-use Rattle.std.proofs.Common.{◌≡◌, ℕ, ◌^◌, ◌<◌, ◌≤◌, min, true, false, ◌⊎◌, List, map, length, get_or, take, set, is_ok, Ok, Err, Result, sym, refl, ap, ◌∙◌, ⊎_elim, arith, get_or-set_other, get_or-set_same, le-ltb, lt-ltb}
+use Rattle.std.proofs.Common.{◌≡◌, ℕ, ◌^◌, ◌<◌, ◌≤◌, min, true, false, List, map, length, get_or, take, set, is_ok, Ok, Err, Result, sym, refl, ap, ◌∙◌, ⊎_elim, arith, get_or-set_other, get_or-set_same, le-ltb, lt-ltb}
 use lib.Seq.{take-set-lt}
 use Rattle.std.proofs.lemmas.List.{length-take, length-map, length-set, get_or-take, get_or-map, map-set, take-set-le, set_past}
 use Rattle.std.proofs.lemmas.Bool.{cases_lt}
 use Rattle.records.specs.declared.declines.Decline.{Decline}
-use Rattle.records.specs.Declines.{number}
 use Rattle.stores.specs.declared.cells.Cell.{Cell}
 use Rattle.stores.specs.declared.cells.Cell.TheVariants.{Empty, Holds}
-use Rattle.stores.specs.Cells.{after, asked, held, meaning, numbered, or_empty, plain, read_of, row, slice_after, write_of}
+use Rattle.stores.specs.Cells.{after, asked, held, meaning, numbered, plain, read_of, row, slice_after, write_of}
 
 module _ {R : Type 0} where
   pub read_in : (xs : List (Cell R)) (at : ℕ) → at < length xs → read_of xs at ≡ Ok (get_or xs at Empty)

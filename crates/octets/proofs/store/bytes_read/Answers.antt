@@ -1,4 +1,4 @@
-use Rattle.std.proofs.Common.{◌≡◌, ◌<◌, ◌≤◌, length, Ok, sym, ap, ◌∙◌, arith}
+use Rattle.std.proofs.Common.{◌<◌, ◌≤◌, length, Ok, sym, ap, ◌∙◌, arith}
 use Rattle.stores.proofs.Rows.{read_in, read_out}
 use Rattle.octets.specs.Codec.{byte_row, decoded}
 use Rattle.octets.proofs.Frames.{row_length}

@@ -1,4 +1,4 @@
-use Rattle.std.proofs.Common.{◌≡◌, ◌+◌, ◌-◌, ◌*◌, ◌≤◌, length, take, drop, sym, ap, ◌∙◌, arith}
+use Rattle.std.proofs.Common.{◌≡◌, ◌-◌, ◌*◌, length, take, drop, sym, ap, ◌∙◌, arith}
 use Rattle.octets.proofs.Frames.{part_short, part_none}
 use Rattle.octets.proofs.store.cell_part.Goals as goal
 use Rattle.octets.proofs.store.cell_part.Goals.{then-end-from-lt32, else-end-from-lt32}

@@ -1,4 +1,4 @@
-use Rattle.std.proofs.Common.{◌≡◌, ◌^◌, ◌<◌, ◌≤◌, min, length, sym, refl, ap, ◌∙◌, arith}
+use Rattle.std.proofs.Common.{◌^◌, ◌<◌, ◌≤◌, min, length, sym, arith}
 use Rattle.stores.specs.Cells.{row}
 use Rattle.stores.proofs.Rows.{row_length, row_get, read_in, read_out}
 use Rattle.stores.proofs.plain.slice_read.Goals as goal

@@ -1,8 +1,5 @@
-use Rattle.std.proofs.Common.{◌≡◌, Result, sym, ◌∙◌, subst, arith}
-use Rattle.records.specs.declared.declines.Decline.{Decline}
+use Rattle.std.proofs.Common.{◌≡◌, ◌∙◌, arith}
 use Rattle.records.specs.declared.declines.Decline.TheVariants.{TooManyBuckets}
-use Rattle.records.specs.Declines.{TakenIf}
-use Rattle.addresses.specs.declared.sizes.Size.{Size}
 use Rattle.addresses.specs.Positions.{grown_x, grown_j}
 use Rattle.addresses.specs.Sized.{Grown}
 use Rattle.addresses.proofs.Splits.{grown_fits}

@@ -1,4 +1,4 @@
-use Rattle.std.proofs.Common.{◌≡◌, ◌-◌, ◌^◌, ◌≤◌, sym, ap, arith}
+use Rattle.std.proofs.Common.{◌≡◌, ◌-◌, ◌^◌, ◌≤◌, ap, arith}
 use Rattle.addresses.specs.Ranges.{buckets}
 use Rattle.addresses.proofs.Computed.{fewer}
 use Rattle.addresses.proofs.sizes.Size.shrunk.Goals as goal
@@ -12,4 +12,4 @@ invariant_of-result-then-self c =
     let s : buckets z.settings.t (z.x - 1) (c.subtables.result - 1) ≡ buckets z.settings.t (z.x - 1) (2 ^ z.settings.t - 1) = ap (λ n. buckets z.settings.t (z.x - 1) (n - 1)) c.subtables.ensures in
     let r = z.room in
     let room : buckets z.settings.t (z.x - 1) (c.subtables.result - 1) ≤ 16384 = omega arith in
-    (omega arith, (omega arith, (omega arith, (room, tt))))
+    record { floor = omega arith; below = omega arith; narrow = omega arith; room = room }

@@ -1,5 +1,4 @@
 use Rattle.std.proofs.Common.{◌≡◌, ℕ, ◌<◌, get_or, ap, ◌∙◌, arith}
-use Rattle.records.specs.declared.numbers.TagNumbers.{TagNumbers}
 use Rattle.octets.specs.Kinds.{tag_in, tag_fields}
 use Rattle.octets.proofs.Spelled.{tag_back}
 use Rattle.octets.proofs.kinds.TagRecordCoded.numbers_in.Goals as goal

@@ -1,4 +1,4 @@
-use Rattle.std.proofs.Common.{◌≡◌, suc, length, get_or, sym, refl, ap, ◌∙◌, arith}
+use Rattle.std.proofs.Common.{◌≡◌, suc, length, get_or, sym, refl, ap, ◌∙◌}
 use Rattle.stores.specs.declared.cells.Cell.TheVariants.{Empty}
 use Rattle.stores.specs.Cells.{asked}
 use Rattle.stores.specs.Makings.{of_bytes}

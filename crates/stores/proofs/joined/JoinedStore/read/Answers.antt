@@ -1,4 +1,4 @@
-use Rattle.std.proofs.Common.{◌≡◌, ◌-◌, ◌^◌, ◌<◌, ◌≤◌, ◌++◌, length, take, sym, ◌∙◌, arith}
+use Rattle.std.proofs.Common.{◌-◌, ◌^◌, ◌<◌, ◌≤◌, ◌++◌, length, take, sym, ◌∙◌, arith}
 use Rattle.stores.proofs.Rows.{read_out}
 use Rattle.stores.proofs.Spans.{read_same, joined_length, joined_left, joined_right}
 use Rattle.stores.proofs.joined.JoinedStore.read.Goals as goal

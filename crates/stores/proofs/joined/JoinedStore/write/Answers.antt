@@ -1,7 +1,7 @@
 use Rattle.std.proofs.Common.{◌≡◌, ◌-◌, ◌^◌, ◌<◌, ◌≤◌, ◌++◌, length, get_or, take, sym, refl, ap, ◌∙◌, arith}
 use Rattle.stores.specs.declared.cells.Cell.TheVariants.{Empty}
-use Rattle.stores.specs.Cells.{asked, after}
-use Rattle.stores.specs.Makings.{both, either}
+use Rattle.stores.specs.Cells.{asked}
+use Rattle.stores.specs.Makings.{both}
 use Rattle.stores.proofs.Rows.{length_after, err_not_ok}
 use Rattle.stores.proofs.Spans.{write_same, write_past, after_past, after_take, after_left, after_right, joined_length, joined_left, joined_right, either_first, either_second, either_same}
 use Rattle.stores.proofs.joined.JoinedStore.write.Goals as goal

@@ -1,4 +1,4 @@
-use Rattle.std.proofs.Common.{◌≡◌, get_or, sym, refl, ap, ◌∙◌}
+use Rattle.std.proofs.Common.{get_or, sym, refl, ap, ◌∙◌}
 use Rattle.stores.specs.declared.cells.Cell.TheVariants.{Empty}
 use Rattle.stores.specs.Cells.{plain}
 use Rattle.stores.specs.Makings.{of_cell}

@@ -1,4 +1,4 @@
-use Rattle.std.proofs.Common.{◌≡◌, ◌+◌, ◌<◌, ◌≤◌, length, take, drop, sym, ◌∙◌, arith}
+use Rattle.std.proofs.Common.{◌+◌, ◌<◌, ◌≤◌, length, take, drop, sym, ◌∙◌, arith}
 use Rattle.stores.proofs.Rows.{read_out}
 use Rattle.stores.proofs.Spans.{read_same, window_length, window_get}
 use Rattle.stores.proofs.window.WindowStore.read.Goals as goal
