@@ -1,12 +1,11 @@
 -- Faults of cells, from what the tests say.
-use Rattle.std.proofs.Common.{◌≡◌, ℕ, ◌+◌, ◌*◌, ◌/◌, ◌<◌, ◌≤◌, Bool, true, false, ◌⊎◌, List, get_or, sym, refl, ap, ◌∙◌, subst, inl, inr, ⊎_elim, div-mul-le_self, arith}
+use Rattle.std.proofs.Common.{◌≡◌, ℕ, ◌+◌, ◌*◌, ◌/◌, ◌<◌, ◌≤◌, Bool, true, false, get_or, sym, refl, ap, ◌∙◌, subst, inl, inr, ⊎_elim, div-mul-le_self, arith}
 use native.Mathlib.Nat.{lt-div-mul-add}
 use Rattle.std.proofs.lemmas.Bool.{cases_lt, cases_Bool, both_ways}
 use Rattle.records.specs.declared.numbers.Words.{Words}
 use Rattle.assignment.specs.Assign.{In}
-use Rattle.stores.specs.declared.cells.Cell.{Cell}
-use Rattle.stores.specs.declared.cells.Cell.TheVariants.{Empty, Holds}
-use Rattle.rules.specs.Tables.{State, HoldsAt, choice_at, own_buckets, used_in}
+use Rattle.stores.specs.declared.cells.Cell.TheVariants.{Empty}
+use Rattle.rules.specs.Tables.{State, HoldsAt, choice_at, own_buckets}
 use Rattle.rules.proofs.Owned.{choice_of_lem, in_or_not}
 use Rattle.rules.proofs.Sounds.{not_both, same_held}
 use Rattle.modules.specs.Checks.{Misplaced, Repeated, Fine, FaultIs, AllFine}

@@ -1,5 +1,5 @@
 -- One answer only.
-use Rattle.std.proofs.Common.{◌≡◌, ℕ, ◌+◌, ◌*◌, ◌<◌, ◌≤◌, Bool, ◌⊎◌, List, [], ◌∷◌, get_or, Some, None, Ok, Err, Option, Result, sym, refl, ap, ◌∙◌, subst, inl, inr, ⊎_elim, arith}
+use Rattle.std.proofs.Common.{◌≡◌, ℕ, ◌+◌, ◌*◌, ◌<◌, Bool, ◌⊎◌, List, [], ◌∷◌, get_or, Some, None, Ok, Err, Option, Result, sym, refl, ap, ◌∙◌, subst, inl, inr, arith}
 use Rattle.std.proofs.lemmas.Bool.{cases_eq, cases_order}
 use Rattle.records.specs.declared.declines.Decline.{Decline}
 use Rattle.records.specs.declared.numbers.Words.{Words}
@@ -7,20 +7,18 @@ use Rattle.records.specs.declared.plates.Plate.{Plate}
 use Rattle.records.specs.Declines.{number}
 use Rattle.records.specs.Kinds.{plate_words, tag_words}
 use Rattle.records.specs.Taken.{same_decline}
-use Rattle.stores.specs.declared.cells.Cell.{Cell}
-use Rattle.stores.specs.declared.cells.Cell.TheVariants.{Empty, Holds}
+use Rattle.stores.specs.declared.cells.Cell.TheVariants.{Empty}
 use Rattle.octets.specs.Codec.{byte_row, lawful_at}
 use Rattle.rules.specs.Rows.{Row, First}
 use Rattle.rules.specs.Tables.{State, used_in}
 use Rattle.rules.proofs.Sounds.{same_held}
 use Rattle.trailers.specs.declared.layouts.Layout.{Layout}
-use Rattle.trailers.specs.Layouts.{numbers_of}
 use Rattle.trailers.specs.Trailers.{LawfulTrailer, numbers_in}
 use Rattle.trailers.proofs.Decided.{lawful_or_not, layout_of}
 use Rattle.modules.specs.declared.faults.Fault.{Fault}
 use Rattle.modules.specs.Checks.{AllFine, Named, Checks, faults}
-use Rattle.modules.specs.Finds.{FirstIn, FirstMatch, Meets, NoMatch}
-use Rattle.modules.specs.Modules.{cells_part_lem, hash_by, in_module, tare_decoded, tag_decoded, words_of_tare, words_of_tag, NoTrailer, DeclinedWith, ModuleChecks, FindsCell, FindsRecord, CellIs, RecordIs}
+use Rattle.modules.specs.Finds.{FirstIn, FirstMatch, NoMatch}
+use Rattle.modules.specs.Modules.{cells_part_lem, hash_by, in_module, tare_decoded, tag_decoded, words_of_tare, words_of_tag, NoTrailer, DeclinedWith, CellIs, RecordIs}
 use Rattle.modules.specs.Laws.{CheckHasOneAnswer, FindHasOneAnswer, FindCellHasOneAnswer}
 
 one_first : (rows : List Row) (n m : ℕ) → First rows n → First rows m → n ≡ m

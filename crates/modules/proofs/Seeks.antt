@@ -1,5 +1,5 @@
 -- One cell or one choice more of a search.
-use Rattle.std.proofs.Common.{◌≡◌, ℕ, ◌+◌, ◌*◌, ◌<◌, ◌≤◌, ◌⊎◌, ap, ◌∙◌, subst, ⊎_elim, mul-le-mul_right, add-mul, mul-le-mul, one-mul, arith}
+use Rattle.std.proofs.Common.{◌≡◌, ℕ, ◌+◌, ◌*◌, ◌<◌, ◌≤◌, ap, ◌∙◌, subst, ⊎_elim, mul-le-mul_right, add-mul, mul-le-mul, one-mul, arith}
 use Rattle.std.proofs.lemmas.Bool.{cases_lt}
 use Rattle.modules.specs.Finds.{NoneIn, NoMatch}
 

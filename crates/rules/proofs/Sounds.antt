@@ -1,8 +1,8 @@
 -- Tables that are sound.
-use Rattle.std.proofs.Common.{◌≡◌, ℕ, false, List, get_or, sym, refl, ap, ◌∙◌, arith}
+use Rattle.std.proofs.Common.{◌≡◌, ℕ, get_or, sym, ap, ◌∙◌, arith}
 use Rattle.stores.specs.declared.cells.Cell.{Cell}
 use Rattle.stores.specs.declared.cells.Cell.TheVariants.{Empty, Holds}
-use Rattle.rules.specs.Tables.{State, HoldsAt, holding, used_in}
+use Rattle.rules.specs.Tables.{State, holding, used_in}
 use Rattle.rules.specs.Theorems.{AnEmptyTableIsSound}
 use Rattle.rules.proofs.Counted.{count_none}
 

@@ -9,7 +9,7 @@ use Rattle.addresses.specs.Sized.{buckets_in}
 use Rattle.assignment.specs.Assign.{In, moves}
 use Rattle.stores.specs.declared.cells.Cell.{Cell}
 use Rattle.stores.specs.declared.cells.Cell.TheVariants.{Empty, Holds}
-use Rattle.rules.specs.Placements.{Direct, Displaced, handed, word}
+use Rattle.rules.specs.Placements.{Direct, Displaced, handed}
 use Rattle.rules.specs.Rows.{Row, First}
 use Rattle.rules.specs.Stored.{AssignsAt, HeldAt, Lying, Stored, StoredKey, placement_in, stored_keys}
 use Rattle.rules.specs.Tables.{State, HoldsAt, used_in}

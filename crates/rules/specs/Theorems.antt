@@ -1,5 +1,5 @@
 -- What holds of tables.
-use Rattle.std.specs.Prelude.{◌≡◌, ℕ, ◌+◌, ◌<◌, ◌≤◌, List, ◌∷◌, length, set, slice_index_or, slice_set}
+use Rattle.std.specs.Prelude.{◌≡◌, ℕ, ◌+◌, ◌<◌, ◌≤◌, List, ◌∷◌, length, slice_index_or, slice_set}
 use Rattle.records.specs.declared.numbers.Words.{Words}
 use Rattle.addresses.specs.declared.sizes.Size.{Size}
 use Rattle.addresses.specs.Sized.{buckets_in}

@@ -1,5 +1,5 @@
 -- What a trailer says, as its numbers.
-use Rattle.std.specs.Prelude.{◌≡◌, ℕ}
+use Rattle.std.specs.Prelude.{◌≡◌}
 use Rattle.addresses.specs.declared.sizes.Size.{Size}
 use Rattle.trailers.specs.declared.layouts.Layout.{Layout}
 use Rattle.trailers.specs.Trailers.{Numbers}

@@ -1,4 +1,4 @@
-use Rattle.std.proofs.Common.{◌≡◌, ◌+◌, ◌-◌, length, take, drop, sym, ap, ◌∙◌, arith}
+use Rattle.std.proofs.Common.{◌≡◌, ◌-◌, length, take, drop, sym, ap, ◌∙◌, arith}
 use Rattle.octets.proofs.Frames.{part_short}
 use Rattle.trailers.specs.Trailers.{numbers_in}
 use Rattle.modules.proofs.calls.cells_part.Goals as goal

@@ -1,4 +1,3 @@
-use Rattle.std.proofs.Common.{◌≡◌}
 use Rattle.modules.proofs.Whole.{tares_checked, tags_checked}
 use Rattle.modules.proofs.calls.check.Goals as goal
 

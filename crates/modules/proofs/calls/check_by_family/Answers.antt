@@ -1,4 +1,4 @@
-use Rattle.std.proofs.Common.{ℕ, sym, ◌∙◌, subst}
+use Rattle.std.proofs.Common.{ℕ, subst}
 use Rattle.records.specs.declared.numbers.Words.{Words}
 use Rattle.octets.specs.Codec.{byte_row, decoded, lawful_at}
 use Rattle.modules.specs.Checks.{Checks, table_of}

@@ -1,4 +1,4 @@
-use Rattle.std.proofs.Common.{◌≡◌, Some, None, Ok, subst}
+use Rattle.std.proofs.Common.{Some, None, Ok, subst}
 use Rattle.records.specs.declared.numbers.Words.{Words}
 use Rattle.octets.specs.Codec.{decoded}
 use Rattle.modules.specs.Modules.{FindsRecord}

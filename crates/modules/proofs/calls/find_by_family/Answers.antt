@@ -1,4 +1,4 @@
-use Rattle.std.proofs.Common.{ℕ, sym, ◌∙◌, subst, MatchOption}
+use Rattle.std.proofs.Common.{ℕ, subst, MatchOption}
 use Rattle.records.specs.declared.numbers.Words.{Words}
 use Rattle.octets.specs.Codec.{byte_row, decoded}
 use Rattle.rules.specs.Tables.{choice_at}

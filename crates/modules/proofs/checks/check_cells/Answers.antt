@@ -1,4 +1,4 @@
-use Rattle.std.proofs.Common.{◌≡◌, take, sym, refl, ap, ◌∙◌, arith}
+use Rattle.std.proofs.Common.{take, sym, refl, ap, ◌∙◌, arith}
 use Rattle.assignment.specs.Assign.{count}
 use Rattle.octets.specs.Codec.{byte_row, decoded, lawful_at}
 use Rattle.rules.specs.Tables.{holding, used_in}
@@ -11,7 +11,7 @@ loop-k-preserved g c =
     let D = decoded g.R.Coded.kind g.R.Coded.end g.R.Coded.numbers_in g.R.Record.made in
     let bs = c.args.cells.now in
     let s = table_of c.args.layout.size c.args.layout.count (byte_row D bs) in
-    all_more (lawful_at D bs) g.R.Record.key_of g.R.Record.words_of (g.F.Family.hash_of c.args.family.now) s c.loop-k.k c.loop-k.invariant c.in-default.ensures
+    all_more (lawful_at D bs) g.R.Record.key_of g.R.Record.words_of (g.F.Family.hash_of c.args.family.now) s c.loop-k.k c.loop-k.invariant c.in_default.ensures
 
 pub returns-then-count_held-layout : goal.returns-then-count_held-layout
 returns-then-count_held-layout g c =

@@ -1,4 +1,4 @@
-use Rattle.std.proofs.Common.{◌≡◌, ℕ, ◌<◌, sym, ap, ◌∙◌, subst, arith, below_more}
+use Rattle.std.proofs.Common.{◌≡◌, sym, ap, ◌∙◌, subst, arith, below_more}
 use Rattle.assignment.specs.Assign.{In}
 use Rattle.addresses.specs.Positions.{choice_of}
 use Rattle.addresses.specs.Sized.{place_in}

@@ -1,10 +1,10 @@
-use Rattle.std.proofs.Common.{◌≡◌, ℕ, ◌+◌, ◌*◌, ◌<◌, ap, ◌∙◌, subst, arith}
+use Rattle.std.proofs.Common.{◌≡◌, ℕ, ◌+◌, ◌*◌, ap, ◌∙◌, subst, arith}
 use Rattle.addresses.specs.Positions.{choice_of}
-use Rattle.addresses.specs.Sized.{place_in, buckets_in}
+use Rattle.addresses.specs.Sized.{place_in}
 use Rattle.octets.specs.Codec.{byte_row, decoded}
 use Rattle.rules.specs.Tables.{choice_at}
 use Rattle.modules.specs.Finds.{NoneIn, FirstIn, Match}
-use Rattle.modules.proofs.Seeks.{match_more, match_end, bucket_fits, few_cells}
+use Rattle.modules.proofs.Seeks.{match_more, match_end}
 use Rattle.modules.proofs.finds.find_below.Goals as goal
 
 pub loop-i-init : goal.loop-i-init
@@ -33,7 +33,7 @@ loop-i-preserved g c =
     let M : ℕ → Type 0 = Match (λ x. g.R.Record.words_of (g.R.Record.key_of x)) (byte_row (decoded g.R.Coded.kind g.R.Coded.end g.R.Coded.numbers_in g.R.Record.made) c.args.cells.now) w c.args.limit in
     let e : c.position-p.result ≡ choice_at (g.F.Family.hash_of c.args.family.now) z w c.loop-i.i = c.position-p.ensures.number ∙ ap (λ q. place_in z q) (c.choice.ensures ∙ ap (λ v. choice_of v c.loop-i.i) c.hash-word.ensures) in
     match_more M (choice_at (g.F.Family.hash_of c.args.family.now) z w) z.settings.cells c.loop-i.i c.loop-i.invariant
-    (subst (λ p. NoneIn M (p * z.settings.cells) (p * z.settings.cells + z.settings.cells)) e c.in-default.ensures)
+    (subst (λ p. NoneIn M (p * z.settings.cells) (p * z.settings.cells + z.settings.cells)) e c.in_default.ensures)
 
 pub returns : goal.returns
 returns g c =

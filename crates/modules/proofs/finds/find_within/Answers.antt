@@ -1,8 +1,5 @@
-use Rattle.std.proofs.Common.{ℕ, arith}
-use Rattle.octets.specs.Codec.{byte_row, decoded}
-use Rattle.modules.specs.Finds.{Match}
-use Rattle.modules.proofs.Seeks.{none_start, none_more, none_end, none_past}
-use Rattle.modules.proofs.finds.find_within.Given as given
+use Rattle.std.proofs.Common.{arith}
+use Rattle.modules.proofs.Seeks.{none_more, none_end, none_past}
 use Rattle.modules.proofs.finds.find_within.Goals as goal
 
 pub loop-c-init : goal.loop-c-init
@@ -17,7 +14,7 @@ returns-in-Some g c =
     (record { low = omega arith; high = omega arith; here = (omega arith, (c.in-Some.held, m)); before = c.loop-c.invariant }, m)
 
 pub loop-c-preserved : goal.loop-c-preserved
-loop-c-preserved g c = none_more _ c.args.from c.loop-c.c c.loop-c.invariant (λ m. c.in-default.ensures m.1.0 m.1.1)
+loop-c-preserved g c = none_more _ c.args.from c.loop-c.c c.loop-c.invariant (λ m. c.in_default.ensures m.1.0 m.1.1)
 
 pub returns : goal.returns
 returns g c = none_end _ c.args.from c.args.end c.loop-c.c c.loop-c.invariant (omega arith)

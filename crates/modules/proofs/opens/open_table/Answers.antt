@@ -1,4 +1,4 @@
-use Rattle.std.proofs.Common.{◌≡◌, refl}
+use Rattle.std.proofs.Common.{refl}
 use Rattle.octets.specs.Codec.{decoded}
 use Rattle.modules.proofs.Opening.{is_opened, not_both}
 use Rattle.modules.proofs.opens.open_table.Goals as goal
@@ -19,5 +19,5 @@ returns-in-Err g c =
           absurd
           (not_both D g.R.Coded.kind (g.F.Family.number_of c.args.family.now) g.R.Record.key_of g.R.Record.words_of (g.F.Family.hash_of c.args.family.now) c.args.bytes.now
           c.in-Err.field-0 c.in-Err.ensures.answer ok);
-      declined = λ _. c.nothing_in-Err.ensures;
+      declined = λ _. c.nothing-in-Err.ensures;
     }

@@ -1,4 +1,4 @@
-use Rattle.std.proofs.Common.{◌≡◌, sym, ap, ◌∙◌}
+use Rattle.std.proofs.Common.{sym, ap, ◌∙◌}
 use Rattle.octets.specs.Codec.{decoded}
 use Rattle.modules.proofs.Opening.{first_opens}
 use Rattle.modules.proofs.opens.openable.Goals as goal

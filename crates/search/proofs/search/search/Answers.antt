@@ -9,7 +9,7 @@ use Rattle.search.proofs.Reached.{bfs_found, bfs_push}
 use Rattle.search.proofs.Seeds.{lined_room}
 use Rattle.search.proofs.Turns.{bfs_row, bfs_skip, bfs_turn}
 use Rattle.search.proofs.search.search.Goals as goal
-use Rattle.search.proofs.search.search.Goals.{then-came-next-eq0+in-default, else-came-next-eq0}
+use Rattle.search.proofs.search.search.Goals.{then-came-next-eq0+in_default, else-came-next-eq0}
 
 pub word_at-held-requires : goal.word_at-held-requires
 word_at-held-requires g c =
@@ -39,12 +39,12 @@ loop-choice-preserved g c =
     let qe = ap (λ y. n.next y c.loop-slot.slot c.loop-choice.choice) (sym pe) ∙ e in
     let ve = ap (λ y. 2 + y) (ce ∙ ap (λ y. y * f.cells + c.loop-slot.slot) pe) in
     elim c.if-came-next-eq0.branch [
-      | then-came-next-eq0+in-default w ↦
+      | then-came-next-eq0+in_default w ↦
           let t = lined_room _ _ _ _ _ c.loop-choice.invariant.0.lined c.leads-next.result (omega arith) (omega arith) w.if-came-next-eq0.true in
           let tl : c.loop-choice.tail < length c.loop-choice.queue = omega arith in
           let old = get_or-set_other c.loop-choice.queue c.loop-choice.tail c.search.head c.leads-next.result 0 (λ e. omega arith) in
           simp (w.came-is, w.queue-is, w.tail-is) (
-            bfs_push _ _ _ _ _ _ _ _ c.loop-choice.invariant.0 (within f c.requires.lawful) c.loop-choice.invariant.1 (omega arith) (omega arith) c.leads-next.result _ qe ve (omega arith) (omega arith) w.if-came-next-eq0.true tl (shut f c.leads-next.result (w.room.ensures.full (none_rest _ w.in-default.not-Some))),
+            bfs_push _ _ _ _ _ _ _ _ c.loop-choice.invariant.0 (within f c.requires.lawful) c.loop-choice.invariant.1 (omega arith) (omega arith) c.leads-next.result _ qe ve (omega arith) (omega arith) w.if-came-next-eq0.true tl (shut f c.leads-next.result (w.room.ensures.full (none_rest _ w.in_default.not-Some))),
             omega arith,
             pe ∙ sym old,
           )

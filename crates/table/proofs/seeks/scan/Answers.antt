@@ -3,7 +3,7 @@ use Rattle.stores.specs.declared.cells.Cell.TheVariants.{Empty}
 use Rattle.placing.proofs.Contents.{cell_rest}
 use Rattle.table.proofs.Searched.{none_empty, none_other, scanned_none, scanned_some}
 use Rattle.table.proofs.seeks.scan.Goals as goal
-use Rattle.table.proofs.seeks.scan.Goals.{in-Holds+else-same, in-default}
+use Rattle.table.proofs.seeks.scan.Goals.{in-Holds+else-same, in_default}
 
 pub loop-cell-init : goal.loop-cell-init
 loop-cell-init g c = λ k r l h. absurd (omega arith)
@@ -14,7 +14,7 @@ loop-cell-preserved g c =
       | in-Holds+else-same w ↦
           none_other _ _ _ _ _ w.in-Holds.held c.loop-cell.invariant (sym c.held_at.ensures ∙ w.in-Holds.is)
           (λ e. w.if-same.ensures (w.words.ensures ∙ ap g.R.Record.words_of w.key.ensures ∙ e))
-      | in-default w ↦ none_empty _ _ _ _ _ c.loop-cell.invariant (sym c.held_at.ensures ∙ cell_rest _ w.in-default.not-Holds)
+      | in_default w ↦ none_empty _ _ _ _ _ c.loop-cell.invariant (sym c.held_at.ensures ∙ cell_rest _ w.in_default.not-Holds)
     ]
 
 pub returns-then-same : goal.returns-then-same

@@ -1,6 +1,6 @@
-use Rattle.std.proofs.Common.{◌≡◌, ◌^◌, ◌≤◌, List, length, sym, refl, ap, ◌∙◌, subst, arith, pow_mono}
+use Rattle.std.proofs.Common.{◌≡◌, ◌^◌, ◌≤◌, length, sym, subst, arith, pow_mono}
 use Rattle.trailers.specs.Trailers.{Lawful, LawfulTrailer, numbers_in}
-use Rattle.trailers.specs.Closing.{closing, closed_bytes}
+use Rattle.trailers.specs.Closing.{closing}
 use Rattle.trailers.proofs.Ends.{closed_lawful}
 use Rattle.trailers.proofs.closing.close.Goals as goal
 
