@@ -6,6 +6,7 @@ use addresses::sizes::{Settings, Size};
 use records::declines::Decline;
 use records::kinds::Record;
 use records::plates::Plate;
+use records::records::TareRecord;
 use std::alloc::{AllocError, Global};
 use std::io;
 use std::io::{BufRead, BufReader};
@@ -40,7 +41,7 @@ fn answer(rt: &HostRuntime, line: &[u8]) -> io::Result<()> {
 fn answer_plate(rt: &HostRuntime, text: &[u8]) -> io::Result<()> {
     match Plate::from_text(text) {
         Ok(plate) => {
-            let words = <records::records::TareRecord as records::kinds::Record>::words(plate);
+            let words = TareRecord::words(plate);
             println!(rt; "p 0 {:016x} {:016x}", words.first, words.second)
         }
         Err(decline) => println!(rt; "p {}", decline.number()),
