@@ -1,4 +1,4 @@
-// The two calls of the terminal's C firmware, on numbers and byte spans only. include/firmware.h declares them.
+// The two calls of the terminal's C firmware, on numbers and byte spans only. The crate firmware_c gives them their C symbols.
 #![tactic(auto)]
 
 ghost use Rattle.std.specs.Prelude.{◌≡◌, ℕ, Option, Result};
@@ -40,16 +40,14 @@ fn find_number(answer: Result<Option<u32>, Decline>) -> u64
 }
 
 // Check as a number: 0, or the decline's number plus 256 times the cell named, if one is.
-#[unsafe(no_mangle)]
-pub extern "C" fn module_check(bytes: &[u8]) -> u64
+pub fn module_check(bytes: &[u8]) -> u64
     ensures { (a : Result (Unit {0}) Fault) × ModuleChecks bytes.now a × (result ≡ check_number_lem a) }
 {
     check_number(check(bytes))
 }
 
 // Find as a number: 256 times the cell's number plus one, 0 for nothing, or 14.
-#[unsafe(no_mangle)]
-pub extern "C" fn module_find(bytes: &[u8], first: u64, second: u64) -> u64
+pub fn module_find(bytes: &[u8], first: u64, second: u64) -> u64
     ensures { (a : Result (Option ℕ) Decline) × FindsCell bytes.now (record { first = first; second = second }) a × (result ≡ find_number_lem a) }
 {
     find_number(find_cell(bytes, Words { first, second }))

@@ -1,11 +1,11 @@
 -- Counting the empty cells of a bucket, one cell at a time, while looking for a key.
-use Rattle.std.proofs.Common.{◌≡◌, ℕ, zero, suc, ◌+◌, ◌*◌, ◌/◌, ◌%◌, ◌<◌, ◌≤◌, cond, eqb, List, get_or, Some, None, sym, refl, ap, ◌∙◌, subst, inl, inr, ⊎_elim, add-one, arith, below_more}
+use Rattle.std.proofs.Common.{◌≡◌, ℕ, zero, suc, ◌+◌, ◌*◌, ◌%◌, ◌<◌, ◌≤◌, cond, eqb, List, get_or, Some, None, sym, refl, ap, ◌∙◌, subst, inl, inr, ⊎_elim, add-one, arith, below_more}
 use Rattle.std.proofs.lemmas.Nat.{div-mul-add, div-add-mod'}
 use Rattle.std.proofs.lemmas.Bool.{cases_eq, cases_lt, cond-false, cond-true, eq-eqb, ne_eqb}
 use Rattle.records.specs.declared.numbers.Words.{Words}
 use Rattle.stores.specs.declared.cells.Cell.{Cell}
 use Rattle.stores.specs.declared.cells.Cell.TheVariants.{Empty, Holds}
-use Rattle.rules.specs.Placements.{Placement, Lawful, LowestEmpty, blank, vacant, vacant_in}
+use Rattle.rules.specs.Placements.{Placement, Lawful, LowestEmpty, blank, vacant_in}
 use Rattle.rules.proofs.Sounds.{not_both}
 use Rattle.placing.specs.declared.looks.Gap.{Gap}
 use Rattle.placing.specs.Looks.{Gapped, HasWords, Looked, Roomy}

@@ -1,5 +1,5 @@
 -- What the search answers.
-use Rattle.std.proofs.Common.{◌≡◌, ℕ, ◌*◌, ◌<◌, ◌≤◌, List, get_or, Some, None, sym, refl, ap, ◌∙◌, subst}
+use Rattle.std.proofs.Common.{ℕ, ◌*◌, ◌<◌, ◌≤◌, List, Some, None, sym, refl, subst}
 use Rattle.rules.specs.Placements.{Placement, LowestEmpty}
 use Rattle.placing.specs.Looks.{Roomy}
 use Rattle.placing.proofs.Contents.{same_some, some_none}

@@ -1,5 +1,5 @@
 -- The graph of a placement's buckets.
-use Rattle.std.proofs.Common.{◌≡◌, ℕ, ◌+◌, ◌*◌, ◌<◌, false, get_or, Option, sym, ap, ◌∙◌, arith, le-ltb}
+use Rattle.std.proofs.Common.{◌≡◌, ℕ, ◌+◌, ◌*◌, false, get_or, Option, sym, ap, ◌∙◌, arith, le-ltb}
 use Rattle.stores.specs.declared.cells.Cell.TheVariants.{Empty}
 use Rattle.rules.specs.Placements.{Placement, Lawful, vacant, word}
 use Rattle.placing.specs.Held.{led_by, mapped}

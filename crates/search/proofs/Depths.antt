@@ -1,9 +1,6 @@
 -- Depths of buckets, and the buckets that are seen no deeper than some depth.
-use Rattle.std.proofs.Common.{◌≡◌, ℕ, zero, suc, ◌+◌, ◌*◌, ◌<◌, ◌≤◌, Bool, true, false, cond, eqb, ltb, ◌≢◌, ◌⊎◌, List, [], ◌∷◌, length, get_or, set, sym, refl, ap, ◌∙◌, subst, inl, inr, ⊎_elim, arith}
-use Rattle.std.proofs.lemmas.List.{get_or-set_same, get_or-set_other}
-use Rattle.std.proofs.lemmas.Bool.{cases_eq, cases_lt, both_ways, eq-eqb, ne_eqb, lt-ltb, ltb-true, eqb-false, cond-true, cond-false}
-use Rattle.search.specs.Nets.{Net, Edge, Root, Back, Trail}
-use Rattle.search.specs.Marks.{Mark, begun, reached, Marks, Lined, Started, Seeded, zeroed, zeros}
+use Rattle.std.proofs.Common.{◌≡◌, ℕ, suc, ◌<◌, ◌≤◌, Bool, true, false, cond, eqb, ltb, ◌≢◌, List, get_or, refl, ◌∙◌, arith}
+use Rattle.std.proofs.lemmas.Bool.{both_ways, eq-eqb, ne_eqb, lt-ltb, ltb-true, eqb-false, cond-true, cond-false}
 
 -- a depth put at one bucket
 abbrev pub put : (ℕ → ℕ) → ℕ → ℕ → ℕ → ℕ

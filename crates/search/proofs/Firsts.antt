@@ -1,9 +1,9 @@
 -- A bucket q is seen for the first time, marked v, at the depth that depth' gives it.
-use Rattle.std.proofs.Common.{◌≡◌, ℕ, zero, suc, ◌+◌, ◌*◌, ◌<◌, ◌≤◌, Bool, true, false, cond, eqb, ltb, ◌≢◌, ◌⊎◌, List, [], ◌∷◌, length, get_or, set, sym, refl, ap, ◌∙◌, subst, inl, inr, ⊎_elim, arith}
+use Rattle.std.proofs.Common.{◌≡◌, ℕ, suc, ◌+◌, ◌<◌, ◌≤◌, false, ◌≢◌, List, length, get_or, set, sym, ap, ◌∙◌, subst, ⊎_elim, arith}
 use Rattle.std.proofs.lemmas.List.{get_or-set_same, get_or-set_other}
-use Rattle.std.proofs.lemmas.Bool.{cases_eq, cases_lt, both_ways, eq-eqb, ne_eqb, lt-ltb, ltb-true, eqb-false, cond-true, cond-false}
-use Rattle.search.specs.Nets.{Net, Edge, Root, Back, Trail}
-use Rattle.search.specs.Marks.{Mark, begun, reached, Marks, Lined, Started, Seeded, zeroed, zeros}
+use Rattle.std.proofs.lemmas.Bool.{cases_eq, cases_lt}
+use Rattle.search.specs.Nets.{Net, Back}
+use Rattle.search.specs.Marks.{Mark, begun, reached, Marks, Lined, Started}
 use Rattle.search.proofs.Zeros.{zeros_set}
 
 -- the edge of p by s and i leads to a bucket that is seen, and at most one deeper

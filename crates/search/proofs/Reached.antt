@@ -1,9 +1,9 @@
 -- An edge of the search to a bucket that was not seen before.
-use Rattle.std.proofs.Common.{◌≡◌, ℕ, zero, suc, ◌+◌, ◌*◌, ◌<◌, ◌≤◌, Bool, true, false, cond, eqb, ltb, ◌≢◌, ◌⊎◌, List, [], ◌∷◌, length, get_or, set, sym, refl, ap, ◌∙◌, subst, inl, inr, ⊎_elim, arith}
-use Rattle.std.proofs.lemmas.List.{get_or-set_same, get_or-set_other}
-use Rattle.std.proofs.lemmas.Bool.{cases_eq, cases_lt, both_ways, eq-eqb, ne_eqb, lt-ltb, ltb-true, eqb-false, cond-true, cond-false}
-use Rattle.search.specs.Nets.{Net, Edge, Root, Back, Trail}
-use Rattle.search.specs.Marks.{Mark, begun, reached, Marks, Lined, Started, Seeded, zeroed, zeros}
+use Rattle.std.proofs.Common.{◌≡◌, ℕ, zero, suc, ◌+◌, ◌*◌, ◌<◌, false, ◌≢◌, List, length, get_or, set, sym, ap, ◌∙◌, subst, ⊎_elim, arith}
+use Rattle.std.proofs.lemmas.List.{get_or-set_same}
+use Rattle.std.proofs.lemmas.Bool.{cases_lt}
+use Rattle.search.specs.Nets.{Net, Trail}
+use Rattle.search.specs.Marks.{begun, reached, Marks, Lined}
 use Rattle.search.specs.Searches.{Nearest}
 use Rattle.search.proofs.Depths.{put, put_same, put_other}
 use Rattle.search.proofs.Firsts.{Cover, came_at, apart, stays, marks_more, started_more, cover_more, queue_old, lined_more}

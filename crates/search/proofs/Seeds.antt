@@ -1,9 +1,8 @@
 -- The starts of the search, one choice at a time.
-use Rattle.std.proofs.Common.{◌≡◌, ℕ, zero, suc, ◌+◌, ◌*◌, ◌<◌, ◌≤◌, Bool, true, false, cond, eqb, ltb, ◌≢◌, ◌⊎◌, List, [], ◌∷◌, length, get_or, set, sym, refl, ap, ◌∙◌, subst, inl, inr, ⊎_elim, arith}
-use Rattle.std.proofs.lemmas.List.{get_or-set_same, get_or-set_other}
-use Rattle.std.proofs.lemmas.Bool.{cases_eq, cases_lt, both_ways, eq-eqb, ne_eqb, lt-ltb, ltb-true, eqb-false, cond-true, cond-false}
-use Rattle.search.specs.Nets.{Net, Edge, Root, Back, Trail}
-use Rattle.search.specs.Marks.{Mark, begun, reached, Marks, Lined, Started, Seeded, zeroed, zeros}
+use Rattle.std.proofs.Common.{◌≡◌, ℕ, ◌+◌, ◌<◌, ◌≤◌, false, ◌≢◌, List, length, get_or, set, sym, refl, ap, ◌∙◌, subst, ⊎_elim, arith}
+use Rattle.std.proofs.lemmas.Bool.{cases_lt}
+use Rattle.search.specs.Nets.{Net}
+use Rattle.search.specs.Marks.{begun, Lined, Seeded}
 use Rattle.search.proofs.Zeros.{zeros_all, zeros_set}
 use Rattle.search.proofs.Firsts.{came_at, lined_more, marks_more, started_more}
 

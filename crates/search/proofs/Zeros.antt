@@ -1,9 +1,6 @@
 -- Counting the entries that are zero.
-use Rattle.std.proofs.Common.{◌≡◌, ℕ, zero, suc, ◌+◌, ◌*◌, ◌<◌, ◌≤◌, Bool, true, false, cond, eqb, ltb, ◌≢◌, ◌⊎◌, List, [], ◌∷◌, length, get_or, set, sym, refl, ap, ◌∙◌, subst, inl, inr, ⊎_elim, arith}
-use Rattle.std.proofs.lemmas.List.{get_or-set_same, get_or-set_other}
-use Rattle.std.proofs.lemmas.Bool.{cases_eq, cases_lt, both_ways, eq-eqb, ne_eqb, lt-ltb, ltb-true, eqb-false, cond-true, cond-false}
-use Rattle.search.specs.Nets.{Net, Edge, Root, Back, Trail}
-use Rattle.search.specs.Marks.{Mark, begun, reached, Marks, Lined, Started, Seeded, zeroed, zeros}
+use Rattle.std.proofs.Common.{◌≡◌, ℕ, zero, suc, ◌+◌, ◌<◌, ◌≤◌, ◌≢◌, List, [], ◌∷◌, length, get_or, set, refl, ap, arith}
+use Rattle.search.specs.Marks.{zeroed, zeros}
 
 zeroed_ne : (v : ℕ) → v ≢ 0 → zeroed v ≡ 0
 zeroed_ne zero h = absurd (h refl)

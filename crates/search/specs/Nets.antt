@@ -1,5 +1,5 @@
 -- The buckets of a placement as a graph: from each, its records lead to their own buckets.
-use Rattle.std.specs.Prelude.{◌≡◌, ℕ, zero, suc, ◌+◌, ◌*◌, ◌<◌, ◌≤◌, Bool, List, get_or, nat_lt, slice_index, slice_index_or}
+use Rattle.std.specs.Prelude.{◌≡◌, ℕ, zero, suc, ◌+◌, ◌*◌, ◌<◌, Bool, List, get_or, nat_lt, slice_index, slice_index_or}
 use Rattle.stores.specs.declared.cells.Cell.TheVariants.{Empty}
 use Rattle.rules.specs.Placements.{Placement, vacant, word}
 use Rattle.placing.specs.Held.{led}

@@ -1,15 +1,14 @@
 -- The own bucket with most room, choice by choice; and what it means to settle there.
-use Rattle.std.proofs.Common.{◌≡◌, ℕ, ◌+◌, ◌*◌, ◌/◌, ◌%◌, ◌<◌, ◌≤◌, true, List, [], get_or, Some, None, sym, refl, ap, ◌∙◌, subst, inl, inr, ⊎_elim, arith}
+use Rattle.std.proofs.Common.{◌≡◌, ℕ, ◌+◌, ◌*◌, ◌%◌, ◌<◌, ◌≤◌, true, [], Some, None, sym, refl, ap, ◌∙◌, subst, ⊎_elim, arith}
 use Rattle.std.proofs.lemmas.Nat.{div-add-mod', div-mul-add, mod_below}
 use Rattle.std.proofs.lemmas.Bool.{cases_lt}
 use Rattle.records.specs.declared.numbers.Words.{Words}
-use Rattle.stores.specs.declared.cells.Cell.{Cell}
-use Rattle.rules.specs.Placements.{Placement, Direct, Lawful, LowestEmpty, vacant}
+use Rattle.rules.specs.Placements.{Placement, Direct, Lawful, vacant}
 use Rattle.rules.specs.Reach.{Layers}
 use Rattle.placing.specs.declared.looks.Gap.{Gap}
 use Rattle.placing.specs.Looks.{Gapped, HasWords, NotIn}
 use Rattle.placing.proofs.Contents.{cell_in, same_some, some_none}
-use Rattle.settle.specs.Surveys.{Absent, Best, Chosen, FoundAt, Surveyed}
+use Rattle.settle.specs.Surveys.{Absent, Best, FoundAt, Surveyed}
 
 module _ {R : Type 0} (f : Placement R) (v : ℕ) where
   pub best_none : (g : Gap) → g.count ≡ 0 → Best f v 0 g

@@ -1,5 +1,5 @@
 -- The place that is settled for a key, by each way to it.
-use Rattle.std.proofs.Common.{◌≡◌, ℕ, ◌<◌, ◌≤◌, List, [], length, Some, None, Ok, Err, Option, Result, sym, refl, ap, ◌∙◌, subst, inl, inr, arith}
+use Rattle.std.proofs.Common.{◌≡◌, ℕ, ◌<◌, ◌≤◌, List, [], Some, None, Ok, Err, Option, Result, sym, refl, subst, inl, inr, arith}
 use Rattle.records.specs.declared.declines.Decline.{Decline}
 use Rattle.records.specs.declared.declines.Decline.TheVariants.{Full, KeyStored}
 use Rattle.records.specs.declared.numbers.Words.{Words}
@@ -10,7 +10,7 @@ use Rattle.placing.specs.declared.looks.Gap.{Gap}
 use Rattle.settle.specs.declared.spot.Spot.{Spot}
 use Rattle.settle.specs.Rooms.{Roomed}
 use Rattle.settle.specs.Settled.{Ready, Refused, Settled}
-use Rattle.settle.specs.Surveys.{Absent, Best, FoundAt, Surveyed}
+use Rattle.settle.specs.Surveys.{Absent, Best, FoundAt}
 use Rattle.settle.proofs.Bests.{all_full, direct, direct_below, no_layers}
 
 pub same_ok : {X Y : Type 0} (x y : X) → ◌≡◌ {A = Result X Y} (Ok x) (Ok y) → x ≡ y

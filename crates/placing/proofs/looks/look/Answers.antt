@@ -1,4 +1,4 @@
-use Rattle.std.proofs.Common.{◌≡◌, ◌+◌, ◌*◌, ◌<◌, sym, refl, ap, ◌∙◌, subst, arith}
+use Rattle.std.proofs.Common.{◌≡◌, ◌<◌, sym, ◌∙◌, subst, arith}
 use Rattle.placing.proofs.Contents.{cell_in, unmapped_none, unmapped_some}
 use Rattle.placing.proofs.Vacancies.{Looking, looking_held, looking_empty, looking_gap, looked}
 use Rattle.placing.proofs.looks.look.Goals as goal

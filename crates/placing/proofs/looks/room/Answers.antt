@@ -1,4 +1,4 @@
-use Rattle.std.proofs.Common.{◌≡◌, ◌+◌, ◌*◌, ◌<◌, sym, refl, ap, ◌∙◌, arith}
+use Rattle.std.proofs.Common.{◌≡◌, ◌<◌, sym, ◌∙◌, arith}
 use Rattle.placing.proofs.Contents.{cell_in, none_of, unmapped_none}
 use Rattle.placing.proofs.Vacancies.{full, roomy}
 use Rattle.placing.proofs.looks.room.Goals as goal

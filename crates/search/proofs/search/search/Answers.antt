@@ -1,9 +1,9 @@
-use Rattle.std.proofs.Common.{◌≡◌, ◌+◌, ◌*◌, ◌<◌, length, get_or, set, sym, refl, ap, ◌∙◌, subst, arith}
+use Rattle.std.proofs.Common.{◌+◌, ◌*◌, ◌<◌, length, get_or, sym, ap, ◌∙◌, subst, arith}
 use Rattle.std.proofs.lemmas.List.{get_or-set_other}
 use Rattle.placing.specs.Looks.{Roomy}
 use Rattle.placing.proofs.Contents.{cell_in, none_rest}
 use Rattle.search.specs.Nets.{net_of}
-use Rattle.search.proofs.Answered.{searched_none, searched_some}
+use Rattle.search.proofs.Answered.{searched_some}
 use Rattle.search.proofs.Buckets.{next_is, shut, within}
 use Rattle.search.proofs.Reached.{bfs_found, bfs_push}
 use Rattle.search.proofs.Seeds.{lined_room}
@@ -50,7 +50,7 @@ loop-choice-preserved g c =
           )
       | else-came-next-eq0 w ↦
           simp (w.came-is, w.queue-is, w.tail-is) (
-            bfs_skip _ _ _ _ _ _ _ _ c.loop-choice.invariant.0 (within f c.requires.lawful) c.loop-choice.invariant.1 (omega arith) (omega arith) (λ z. w.if-came-next-eq0.false (ap (λ y. get_or c.loop-choice.branch y 0) (sym qe) ∙ z)),
+            bfs_skip _ _ _ _ _ _ _ _ c.loop-choice.invariant.0 (within f c.requires.lawful) c.loop-choice.invariant.1 (omega arith) (omega arith) (λ z. w.if-came-next-eq0.false (ap (λ y. get_or c.loop-choice.came y 0) (sym qe) ∙ z)),
             c.loop-choice.invariant.1,
             pe,
           )

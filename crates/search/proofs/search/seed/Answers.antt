@@ -1,6 +1,4 @@
-use Rattle.std.proofs.Common.{◌≡◌, ◌+◌, ◌<◌, ◌≤◌, length, get_or, sym, refl, ap, ◌∙◌, subst, arith}
-use Rattle.search.specs.Marks.{Seeded}
-use Rattle.search.specs.Nets.{net_of}
+use Rattle.std.proofs.Common.{◌<◌, get_or, sym, ap, ◌∙◌, arith}
 use Rattle.search.proofs.Buckets.{shut}
 use Rattle.search.proofs.Seeds.{lined_room, seeded_none, seeded_push, seeded_skip}
 use Rattle.search.proofs.search.seed.Goals as goal
@@ -27,5 +25,5 @@ loop-choice-preserved g c =
           let t = lined_room _ _ _ _ _ c.loop-choice.invariant.lined c.bucket-bucket.result (omega arith) (omega arith) w.if-came-bucket-eq0.true in
           simp (w.came-is, w.queue-is, w.tail-is) (seeded_push _ _ _ _ _ _ c.loop-choice.invariant c.bucket-bucket.result a wl (omega arith) (omega arith) w.if-came-bucket-eq0.true (omega arith) r)
       | else-came-bucket-eq0 w ↦
-          simp (w.came-is, w.queue-is, w.tail-is) (seeded_skip _ _ _ _ _ _ c.loop-choice.invariant (λ z. w.if-came-bucket-eq0.false (ap (λ y. get_or c.loop-choice.branch y 0) (sym a) ∙ z)))
+          simp (w.came-is, w.queue-is, w.tail-is) (seeded_skip _ _ _ _ _ _ c.loop-choice.invariant (λ z. w.if-came-bucket-eq0.false (ap (λ y. get_or c.loop-choice.came y 0) (sym a) ∙ z)))
     ]

@@ -1,4 +1,4 @@
-use Rattle.std.proofs.Common.{◌≡◌, sym, refl, ap, ◌∙◌, subst, arith}
+use Rattle.std.proofs.Common.{refl, arith}
 use Rattle.settle.proofs.Meanings.{roomed_none, roomed_some}
 use Rattle.settle.proofs.Walks.{wrote_none}
 use Rattle.settle.proofs.rooms.make_room.Goals as goal

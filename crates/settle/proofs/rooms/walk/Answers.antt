@@ -1,5 +1,5 @@
-use Rattle.std.proofs.Common.{◌≡◌, ◌+◌, ◌-◌, ◌*◌, ◌/◌, ◌<◌, ◌≤◌, sym, refl, ap, ◌∙◌, subst, arith}
-use Rattle.settle.proofs.Walks.{Walking, few_moves, from_below, held_more, marked, nearer, walk_step, walked, walking_none, wrote_none}
+use Rattle.std.proofs.Common.{refl, ◌∙◌, arith}
+use Rattle.settle.proofs.Walks.{few_moves, from_below, marked, nearer, walk_step, walked, walking_none, wrote_none}
 use Rattle.settle.proofs.rooms.walk.Goals as goal
 
 pub loop-bucket-init : goal.loop-bucket-init

@@ -1,21 +1,18 @@
-use Rattle.std.proofs.Common.{◌≡◌, sym, refl, ap, ◌∙◌, subst, arith}
+use Rattle.std.proofs.Common.{◌≡◌, sym, refl, subst}
 use Rattle.rules.specs.Placements.{vacant}
+use Rattle.rules.specs.Written.{Wrote}
 use Rattle.settle.proofs.Bests.{all_full}
 use Rattle.settle.proofs.Places.{blocked_off, made_way, settled_direct}
 use Rattle.settle.proofs.Walks.{wrote_none}
 use Rattle.settle.proofs.settles.spot_for.Goals as goal
 
-pub returns-then-best-gt0 : goal.returns-then-best-gt0
-returns-then-best-gt0 g c =
+pub returns-then-best-gt0-clause-settled : goal.returns-then-best-gt0-clause-settled
+returns-then-best-gt0-clause-settled g c =
+    let f = g.P.Placing.placement c.args.p.now in
     let k = c.survey.ensures in
-    record {
-      placement = refl;
-      settled =
-          settled_direct _ _ _ _ (k.absent c.in-Some.best c.in-Some.is) c.hash-word.result c.hash-word.ensures c.requires.lawful c.in-Some.best (k.best c.in-Some.best c.in-Some.is)
-          c.if-best-gt0.true refl (wrote_none _ _ _);
-      place = refl;
-      code = refl;
-    }
+    settled_direct f c.args.words.now f.held (Wrote (g.P.Placing.code c.args.p.now) (g.P.Placing.raw c.args.p.now) (g.P.Placing.raw c.args.p.now) f.held)
+    (k.absent c.in-Some.best c.in-Some.is) c.hash-word.result c.hash-word.ensures c.requires.lawful c.in-Some.best (k.best c.in-Some.best c.in-Some.is)
+    c.if-best-gt0.true refl (wrote_none (g.P.Placing.code c.args.p.now) (g.P.Placing.raw c.args.p.now) f.held)
 
 pub make_room-requires : goal.make_room-requires
 make_room-requires g c =
@@ -40,14 +37,10 @@ returns-in-Some-make_room g c =
       code = c.make_room.ensures.code;
     }
 
-pub returns-in-None : goal.returns-in-None
-returns-in-None g c =
+pub returns-in-None-clause-settled : goal.returns-in-None-clause-settled
+returns-in-None-clause-settled g c =
     let k = c.survey.ensures in
-    record {
-      placement = c.make_room.ensures.placement;
-      settled =
-          blocked_off _ _ _ _ (k.absent c.in-Some.best c.in-Some.is) c.hash-word.result c.hash-word.ensures c.make_room.result c.make_room.ensures.roomed
-          c.in-None.is;
-      place = c.make_room.ensures.place;
-      code = c.make_room.ensures.code;
-    }
+    let held = (g.P.Placing.placement c.make_room.new.p).held in
+    blocked_off (g.P.Placing.placement c.args.p.now) c.args.words.now held
+    (Wrote (g.P.Placing.code c.args.p.now) (g.P.Placing.raw c.args.p.now) (g.P.Placing.raw c.make_room.new.p) held)
+    (k.absent c.in-Some.best c.in-Some.is) c.hash-word.result c.hash-word.ensures c.make_room.result c.make_room.ensures.roomed c.in-None.is

@@ -1,5 +1,5 @@
-use Rattle.std.proofs.Common.{◌≡◌, ◌+◌, ◌<◌, sym, refl, ap, ◌∙◌, subst, arith, below_more}
-use Rattle.placing.specs.Looks.{Gapped, Looked, NotIn}
+use Rattle.std.proofs.Common.{subst, arith, below_more}
+use Rattle.placing.specs.Looks.{Looked, NotIn}
 use Rattle.settle.proofs.Bests.{best_keep, best_more, surveyed_none, surveyed_some}
 use Rattle.settle.proofs.surveys.survey.Goals as goal
 use Rattle.settle.proofs.surveys.survey.Goals.{then-gap-best, else-gap-best}
