@@ -1,6 +1,5 @@
 -- What an insert leaves once a place is settled for its record.
-use Rattle.std.proofs.Common.{◌≡◌, ℕ, ◌+◌, ◌*◌, ◌/◌, ◌<◌, ◌≤◌, ◌⊎◌, List, [], ◌∷◌, length, get_or, set, Ok, Err, Result, sym, refl, ap, ◌∙◌, subst, inl, inr, ⊎_elim, arith}
-use Rattle.std.proofs.lemmas.Nat.{mul-le}
+use Rattle.std.proofs.Common.{◌≡◌, ℕ, ◌+◌, ◌/◌, ◌<◌, ◌≤◌, ◌⊎◌, List, ◌∷◌, length, get_or, set, Ok, Err, sym, refl, ap, ◌∙◌, subst, inl, inr, ⊎_elim, arith}
 use Rattle.records.specs.declared.declines.Decline.{Decline}
 use Rattle.records.specs.declared.numbers.Words.{Words}
 use Rattle.records.specs.Declines.{number}
@@ -12,8 +11,8 @@ use Rattle.stores.specs.Makings.{Raw}
 use Rattle.rules.specs.Calls.{Inserted, Inserts, insert_rows}
 use Rattle.rules.specs.Placements.{Placement, Direct, Displaced, Lawful, LowestEmpty, Own, Route, handed}
 use Rattle.rules.specs.Rows.{First}
-use Rattle.rules.specs.Stored.{HeldAt, StoredKey, placement_in, stored_keys}
-use Rattle.rules.specs.Tables.{State, HoldsAt, Sound, used_in}
+use Rattle.rules.specs.Stored.{StoredKey, placement_in}
+use Rattle.rules.specs.Tables.{State, Sound, used_in}
 use Rattle.rules.specs.Theorems.{Enters, ToldApart}
 use Rattle.rules.specs.Written.{Kept, Wrote}
 use Rattle.rules.proofs.Additions.{an_insert_is_an_assignment}
@@ -26,7 +25,7 @@ use Rattle.rules.proofs.Owned.{own_from}
 use Rattle.settle.specs.declared.spot.Spot.{Spot}
 use Rattle.settle.specs.Settled.{Ready, Refused}
 use Rattle.settle.specs.Surveys.{Absent}
-use Rattle.settle.proofs.Places.{ok_err, same_err, same_ok}
+use Rattle.settle.proofs.Places.{ok_err, same_ok}
 use Rattle.settle.proofs.Walks.{wrote_more}
 
 -- a record that goes directly to its bucket takes a route too

@@ -1,10 +1,9 @@
 -- The count of a sound table is small, and working spaces that were cleared.
-use Rattle.std.proofs.Common.{◌≡◌, ℕ, ◌+◌, ◌-◌, ◌*◌, ◌^◌, ◌<◌, ◌≤◌, min, true, List, length, get_or, take, Err, Result, refl, ap, ◌∙◌, ⊎_elim, arith}
+use Rattle.std.proofs.Common.{◌≡◌, ℕ, ◌+◌, ◌-◌, ◌*◌, ◌^◌, ◌≤◌, min, true, List, take, Result, refl, ap, ⊎_elim, arith}
 use Rattle.std.proofs.lemmas.Nat.{mul-le}
 use Rattle.std.proofs.lemmas.List.{length-take}
 use Rattle.records.specs.declared.declines.Decline.{Decline}
 use Rattle.records.specs.declared.numbers.Words.{Words}
-use Rattle.records.specs.Declines.{number}
 use Rattle.addresses.specs.declared.sizes.Size.{Size}
 use Rattle.addresses.specs.Sized.{buckets_in}
 use Rattle.assignment.proofs.Counts.{count_all, count_le}

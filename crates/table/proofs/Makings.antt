@@ -1,13 +1,10 @@
 -- What make leaves.
-use Rattle.std.proofs.Common.{◌≡◌, ℕ, ◌+◌, ◌*◌, ◌^◌, ◌<◌, ◌≤◌, List, length, get_or, Ok, Err, Result, sym, refl, ap, ◌∙◌, subst, ap₂, inl, inr, add-zero, arith}
+use Rattle.std.proofs.Common.{◌≡◌, ℕ, ◌+◌, ◌*◌, ◌^◌, ◌≤◌, List, length, Ok, Result, refl, ap, ◌∙◌, subst, ap₂, inr, add-zero, arith}
 use Rattle.records.specs.declared.declines.Decline.{Decline}
 use Rattle.records.specs.declared.numbers.Words.{Words}
-use Rattle.addresses.specs.declared.sizes.Settings.{Settings}
 use Rattle.addresses.specs.declared.sizes.Size.{Size}
 use Rattle.addresses.specs.Ranges.{InRange}
-use Rattle.addresses.specs.Sized.{buckets_in}
 use Rattle.stores.specs.declared.cells.Cell.{Cell}
-use Rattle.stores.specs.declared.cells.Cell.TheVariants.{Empty}
 use Rattle.stores.specs.Makings.{Raw}
 use Rattle.rules.specs.Calls.{Answered, Emptied, Made, make_rows}
 use Rattle.rules.specs.Tables.{Sound, used_in}

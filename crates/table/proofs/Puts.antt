@@ -1,13 +1,13 @@
 -- Reading one cell, and putting something into one.
-use Rattle.std.proofs.Common.{◌≡◌, ℕ, ◌<◌, ◌≤◌, List, length, get_or, set, Ok, Err, Result, sym, refl, ap, ◌∙◌, subst, inl, inr, arith}
+use Rattle.std.proofs.Common.{◌≡◌, ℕ, ◌<◌, List, length, get_or, set, Ok, Err, Result, sym, refl, ap, ◌∙◌, subst, inl, inr, arith}
 use Rattle.std.proofs.lemmas.List.{get_or_past, get_or-set_same}
 use Rattle.std.proofs.lemmas.Bool.{cases_lt}
 use Rattle.records.specs.declared.declines.Decline.{Decline}
 use Rattle.stores.specs.declared.cells.Cell.{Cell}
 use Rattle.stores.specs.declared.cells.Cell.TheVariants.{Empty, Holds}
-use Rattle.stores.specs.Cells.{after, asked, held, numbered, plain, read_of, write_of}
+use Rattle.stores.specs.Cells.{asked, held, numbered, plain, read_of}
 use Rattle.stores.specs.Makings.{Raw}
-use Rattle.stores.proofs.Rows.{read_in, write_in}
+use Rattle.stores.proofs.Rows.{read_in}
 
 ok_err : {X Y : Type 0} (x : X) (y : Y) → ◌≡◌ {A = Result X Y} (Ok x) (Err y) → ⊥
 ok_err x y e = let z : ◌≡◌ {A = ℕ} 0 1 = cc in omega arith

@@ -1,5 +1,5 @@
 -- Looking for a key, cell by cell and bucket by bucket.
-use Rattle.std.proofs.Common.{◌≡◌, ℕ, ◌+◌, ◌*◌, ◌/◌, ◌%◌, ◌<◌, ◌≤◌, Bool, true, cond, List, length, get_or, is_some as option_is_some, Some, None, Option, sym, refl, ap, ◌∙◌, subst, inl, inr, add-mul, arith}
+use Rattle.std.proofs.Common.{◌≡◌, ℕ, ◌+◌, ◌*◌, ◌/◌, ◌<◌, ◌≤◌, Bool, true, cond, List, get_or, is_some as option_is_some, Some, None, Option, sym, ap, ◌∙◌, subst, inl, inr, add-mul, arith}
 use Rattle.std.proofs.lemmas.Nat.{div-add-mod', mod_below, mul-le}
 use Rattle.std.proofs.lemmas.Bool.{cases_lt}
 use Rattle.records.specs.declared.numbers.Words.{Words}
@@ -9,7 +9,7 @@ use Rattle.addresses.specs.Sized.{buckets_in, place_in}
 use Rattle.assignment.specs.Assign.{In}
 use Rattle.stores.specs.declared.cells.Cell.{Cell}
 use Rattle.stores.specs.declared.cells.Cell.TheVariants.{Empty, Holds}
-use Rattle.rules.specs.Tables.{State, HoldsAt, choice_at, own_buckets, used_in}
+use Rattle.rules.specs.Tables.{State, choice_at, own_buckets}
 use Rattle.rules.proofs.Owned.{choice_of_lem, own_buckets_lie_below, own_choice}
 use Rattle.rules.proofs.Sounds.{not_both, same_held}
 use Rattle.placing.proofs.Contents.{same_some, some_none}

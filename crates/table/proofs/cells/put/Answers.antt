@@ -1,4 +1,4 @@
-use Rattle.std.proofs.Common.{◌≡◌, sym, refl, ap, ◌∙◌}
+use Rattle.std.proofs.Common.{ap, ◌∙◌}
 use Rattle.stores.specs.Cells.{after, asked, write_of}
 use Rattle.stores.proofs.Rows.{write_in}
 use Rattle.table.proofs.Puts.{asked_again, made_of, taken}

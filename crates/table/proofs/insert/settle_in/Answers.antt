@@ -1,4 +1,4 @@
-use Rattle.std.proofs.Common.{◌≡◌, sym, refl, ap, ◌∙◌, rules}
+use Rattle.std.proofs.Common.{rules}
 use Rattle.rules.specs.Placements.{placement_of}
 use Rattle.rules.specs.Written.{Wrote}
 use Rattle.rules.proofs.Lawfuls.{lawful_placement}

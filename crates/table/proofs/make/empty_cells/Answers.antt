@@ -1,4 +1,4 @@
-use Rattle.std.proofs.Common.{◌≡◌, ◌<◌, ◌≤◌, length, sym, refl, ap, ◌∙◌, subst, arith}
+use Rattle.std.proofs.Common.{◌≡◌, ◌<◌, ◌≤◌, length, refl, ◌∙◌, subst, arith}
 use Rattle.rules.specs.Calls.{Emptied}
 use Rattle.rules.specs.Written.{Wrote}
 use Rattle.table.proofs.Emptying.{Between, emptied_more, emptied_none, wrote_more, wrote_none_between}

@@ -1,4 +1,4 @@
-use Rattle.std.proofs.Common.{◌≡◌, ◌*◌, ◌≤◌, length, sym, refl, ap, ◌∙◌, subst, ap₂, arith}
+use Rattle.std.proofs.Common.{◌*◌, ◌≤◌, length, sym, ap, ◌∙◌, ap₂, arith}
 use Rattle.addresses.specs.declared.sizes.Settings.{Settings}
 use Rattle.table.proofs.Makings.{makes, new_sound}
 use Rattle.table.proofs.make.make.Goals as goal

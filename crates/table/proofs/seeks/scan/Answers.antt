@@ -1,5 +1,4 @@
-use Rattle.std.proofs.Common.{◌≡◌, sym, refl, ap, ◌∙◌, arith}
-use Rattle.stores.specs.declared.cells.Cell.TheVariants.{Empty}
+use Rattle.std.proofs.Common.{sym, ap, ◌∙◌, arith}
 use Rattle.placing.proofs.Contents.{cell_rest}
 use Rattle.table.proofs.Searched.{none_empty, none_other, scanned_none, scanned_some}
 use Rattle.table.proofs.seeks.scan.Goals as goal

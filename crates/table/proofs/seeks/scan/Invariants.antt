@@ -1,4 +1,3 @@
-use Rattle.std.proofs.Common.{◌≡◌, ℕ, ◌<◌, ◌≤◌}
 use Rattle.table.proofs.Searched.{NoneIn}
 use Rattle.table.proofs.seeks.scan.Given as goal
 

@@ -1,4 +1,4 @@
-use Rattle.std.proofs.Common.{◌≡◌, ◌+◌, ◌*◌, sym, refl, ap, ◌∙◌, subst, arith, below_more}
+use Rattle.std.proofs.Common.{sym, refl, ◌∙◌, arith, below_more}
 use Rattle.placing.proofs.Contents.{none_of}
 use Rattle.table.proofs.Searched.{NotAt, sought_none, sought_some, stretch}
 use Rattle.table.proofs.seeks.seek.Goals as goal

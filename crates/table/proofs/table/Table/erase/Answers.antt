@@ -1,4 +1,4 @@
-use Rattle.std.proofs.Common.{◌≡◌, sym, refl, ap, ◌∙◌}
+use Rattle.std.proofs.Common.{refl}
 use Rattle.table.specs.States.{state_of}
 use Rattle.table.proofs.Founds.{erased_kept, erased_sound, erases}
 use Rattle.table.proofs.table.Table.erase.Goals as goal

@@ -1,4 +1,4 @@
-use Rattle.std.proofs.Common.{◌≡◌, ◌≤◌, length, sym, refl, ap, ◌∙◌, subst, arith}
+use Rattle.std.proofs.Common.{◌≤◌, length, sym, refl, ap, ◌∙◌, subst, arith}
 use Rattle.addresses.specs.Sized.{buckets_in}
 use Rattle.stores.specs.declared.cells.Cell.TheVariants.{Holds}
 use Rattle.rules.specs.Stored.{placement_in}
