@@ -1,6 +1,6 @@
 // Record kinds: what every kind shows, and the two that there are.
 ghost use Rattle.std.specs.Prelude.{◌≡◌, ◌⊎◌, Ok, Err, Result};
-ghost use Rattle.std.proofs.Common.{ap, arith};
+ghost use Rattle.std.proofs.Common.{ap};
 ghost use Rattle.records.specs.declared.declines.Decline.{Decline};
 ghost use Rattle.records.specs.declared.numbers.Words.{Words};
 ghost use Rattle.records.specs.Declines.{number};
@@ -68,7 +68,7 @@ impl Record for TagRecord {
 
     ghost words_of = { tag_words };
 
-    ghost apart = { first_of (Prim.search rules, Prim.grind (arith, Self.row.coded.inj)) };
+    ghost apart = { λ k l e. ap (λ w. w.second) e };
 
     ghost again = { λ r. tag_again r };
 
