@@ -23,7 +23,8 @@ handed_off (c ∷ path) v cs x out =
     get_or-set_other (handed path (get_or cs c Empty) cs) c x v Empty (λ e. out (inl e))
     ∙ handed_off path (get_or cs c Empty) cs x (λ i. out (inr i))
 
-in_place : (x : ℕ) (xs : List ℕ) → In x xs → (n : ℕ) × (n < length xs) × (get_or xs n 0 ≡ x)
+-- a member of a list stands at some place of it
+pub in_place : (x : ℕ) (xs : List ℕ) → In x xs → (n : ℕ) × (n < length xs) × (get_or xs n 0 ≡ x)
 in_place x [] i = absurd i
 in_place x (y ∷ xs) (inl e) = (0, omega arith, sym e)
 in_place x (y ∷ xs) (inr i) = let r = in_place x xs i in let l = r.1 in (suc r.0, omega arith, r.2)

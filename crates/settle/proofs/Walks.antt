@@ -8,18 +8,13 @@ use Rattle.stores.specs.declared.cells.Cell.TheVariants.{Empty, Holds}
 use Rattle.stores.specs.Makings.{Raw}
 use Rattle.rules.specs.Placements.{Placement, Apart, Lawful, LowestEmpty, Path, handed, word}
 use Rattle.rules.specs.Written.{Wrote}
+use Rattle.rules.proofs.Handings.{in_place}
 use Rattle.placing.specs.Held.{led, with_held}
 use Rattle.placing.proofs.Contents.{led_away}
 use Rattle.search.specs.Nets.{Trail, net_of}
 use Rattle.settle.specs.declared.spot.Spot.{Spot}
 use Rattle.settle.specs.Rooms.{Walked}
 use Rattle.settle.proofs.Ranks.{Onward, onward, rank, rank_is, rank_le}
-
--- a cell in a list of cells stands at some place of it
-pub in_at : (c : ℕ) (cs : List ℕ) → In c cs → (n : ℕ) × (n < length cs) × (get_or cs n 0 ≡ c)
-in_at c [] h = absurd h
-in_at c (d ∷ cs) (inl e) = (0, omega arith, sym e)
-in_at c (d ∷ cs) (inr h) = let r = in_at c cs h in let l = r.1 in (suc r.0, omega arith, r.2)
 
 -- no cell is written
 pub wrote_none : {N R : Type 0} (code : ℕ → Cell R → Raw N) (raw : ℕ → Raw N) (held : List (Cell R)) → Wrote code raw raw held (λ c. ⊥)
@@ -131,7 +126,7 @@ module _ {R : Type 0} (f : Placement R) (came : List ℕ) where
       -- the cell that is written next is none of those that were
       pub unwritten : In cell w.rest → ⊥
       unwritten i =
-          let r = in_at cell w.rest i in
+          let r = in_place cell w.rest i in
           w.apart.0 r.0 r.1 (ap (λ y. y / f.cells) r.2)
 
       pub walking_more :

@@ -22,6 +22,10 @@ module _ {R : Type 0} (from n : ℕ) (cells now after : List (Cell R)) (l : n < 
   here : n < length now
   here = let r = k.reach in omega arith
 
+  -- a cell before the next one that is not this one lies before it
+  below_or : (c : ℕ) → c < n + 1 → (c ≡ n → ⊥) → c < n
+  below_or c b i = elim (cases_lt c n) [ inl x ↦ x | inr x ↦ absurd (i (omega arith)) ]
+
   pub emptied_more : Emptied from (n + 1) cells after
   emptied_more = record {
     reach = ap length e ∙ length-set now n Empty ∙ k.reach;
@@ -33,9 +37,6 @@ module _ {R : Type 0} (from n : ℕ) (cells now after : List (Cell R)) (l : n < 
     below = λ c a. ap (λ ys. get_or ys c Empty) e ∙ get_or-set_other now n c Empty Empty (λ i. omega arith) ∙ k.below c a;
     past = λ c a. ap (λ ys. get_or ys c Empty) e ∙ get_or-set_other now n c Empty Empty (λ i. omega arith) ∙ k.past c (omega arith);
   }
-    where
-      below_or : (c : ℕ) → c < n + 1 → (c ≡ n → ⊥) → c < n
-      below_or c b i = elim (cases_lt c n) [ inl x ↦ x | inr x ↦ absurd (i (omega arith)) ]
 
   pub wrote_more :
       {N : Type 0} (code code' : ℕ → Cell R → Raw N) (raw raw' raw'' : ℕ → Raw N) → code' ≡ code → Wrote code raw raw' now (Between from n) →
@@ -48,9 +49,6 @@ module _ {R : Type 0} (from n : ℕ) (cells now after : List (Cell R)) (l : n < 
               subst (λ y. raw'' y ≡ code y (get_or after y Empty)) (sym i)
               (made here ∙ ap (λ q. q n Empty) ce ∙ ap (code n) (sym (ap (λ ys. get_or ys n Empty) e ∙ get_or-set_same now n Empty Empty here)))
           | inr i ↦
-              others c i ∙ w.made c (a, lower c b i) ∙ ap (code c) (sym (ap (λ ys. get_or ys c Empty) e ∙ get_or-set_other now n c Empty Empty i))
+              others c i ∙ w.made c (a, below_or c b i) ∙ ap (code c) (sym (ap (λ ys. get_or ys c Empty) e ∙ get_or-set_other now n c Empty Empty i))
         ];
   }
-    where
-      lower : (c : ℕ) → c < n + 1 → (c ≡ n → ⊥) → c < n
-      lower c b i = elim (cases_lt c n) [ inl x ↦ x | inr x ↦ absurd (i (omega arith)) ]

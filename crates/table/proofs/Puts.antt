@@ -1,5 +1,5 @@
 -- Reading one cell, and putting something into one.
-use Rattle.std.proofs.Common.{◌≡◌, ℕ, ◌<◌, List, length, get_or, set, Ok, Err, Result, sym, refl, ap, ◌∙◌, subst, inl, inr, arith}
+use Rattle.std.proofs.Common.{◌≡◌, ℕ, ◌<◌, List, length, get_or, set, Ok, Err, Result, sym, refl, ap, ◌∙◌, subst, inl, inr}
 use Rattle.std.proofs.lemmas.List.{get_or_past, get_or-set_same}
 use Rattle.std.proofs.lemmas.Bool.{cases_lt}
 use Rattle.records.specs.declared.declines.Decline.{Decline}
@@ -8,9 +8,7 @@ use Rattle.stores.specs.declared.cells.Cell.TheVariants.{Empty, Holds}
 use Rattle.stores.specs.Cells.{asked, held, numbered, plain, read_of}
 use Rattle.stores.specs.Makings.{Raw}
 use Rattle.stores.proofs.Rows.{read_in}
-
-ok_err : {X Y : Type 0} (x : X) (y : Y) → ◌≡◌ {A = Result X Y} (Ok x) (Err y) → ⊥
-ok_err x y e = let z : ◌≡◌ {A = ℕ} 0 1 = cc in omega arith
+use Rattle.settle.proofs.Places.{ok_err}
 
 -- a read that was declined was past the end
 pub read_nothing : {R : Type 0} (xs : List (Cell R)) (at n : ℕ) → Err n ≡ read_of xs at → Empty ≡ get_or xs at Empty

@@ -11,7 +11,7 @@ use records::numbers::Words;
 use stores::cells::Cell;
 use stores::store::Store;
 
-// The first cell of a stretch whose record has these key words.
+// A cell of a stretch whose record has these key words, and that record; nothing where there is none.
 fn scan<R: Record, S: Store<R>>(store: &S, from: u32, end: u32, words: Words) -> Option<Hit<R>>
     ensures { Scanned (λ x. R.Record.words_of (R.Record.key_of x)) (S.Store.cells store.now) from end words result }
 {

@@ -1,4 +1,8 @@
 // The two working spaces of an insert, and whether the insert left them as it must.
+ghost use Rattle.std.specs.Prelude.{◌≡◌, MatchBool, IfOk, replicate};
+ghost use Rattle.settle.specs.Rooms.{Zero};
+ghost use Rattle.tablerun.specs.Spaces.{CountsUp};
+
 use std::alloc::{AllocError, Global};
 
 #[derive(Drop)]
@@ -9,7 +13,10 @@ pub struct Spaces {
 
 impl Spaces {
     // Spaces of so many numbers each.
-    pub fn new(heap: Global, queue: u32, came: u32) -> Result<Spaces, AllocError> {
+    pub fn new(heap: Global, queue: u32, came: u32) -> Result<Spaces, AllocError>
+        ensures queue { IfOk result (λ s. s.queue.items ≡ replicate queue 0) }
+        ensures came { IfOk result (λ s. s.came.items ≡ replicate came 0) }
+    {
         Ok(Spaces {
             queue: vec![in heap; 0; queue as usize]?,
             came: vec![in heap; 0; came as usize]?,
@@ -17,23 +24,32 @@ impl Spaces {
     }
 
     // Puts a number other than 0 into every place.
-    pub fn fill(&mut self) {
+    pub fn fill(&mut self)
+        ensures queue { CountsUp self.new.queue.items }
+        ensures came { CountsUp self.new.came.items }
+    {
         count_up(&mut self.queue);
         count_up(&mut self.came);
     }
 
-    pub fn are_zero(&self) -> bool {
+    pub fn are_zero(&self) -> bool
+        ensures { MatchBool result (Zero self.now.queue.items × Zero self.now.came.items) (Zero self.now.queue.items × Zero self.now.came.items → ⊥) }
+    {
         is_zero(&self.queue) && is_zero(&self.came)
     }
 
     // Whether both hold what they were filled with.
-    pub fn are_filled(&self) -> bool {
+    pub fn are_filled(&self) -> bool
+        ensures { MatchBool result (CountsUp self.now.queue.items × CountsUp self.now.came.items) (CountsUp self.now.queue.items × CountsUp self.now.came.items → ⊥) }
+    {
         counts_up(&self.queue) && counts_up(&self.came)
     }
 }
 
 // 1, 2, 3 and so on.
-fn count_up(space: &mut [u32]) {
+fn count_up(space: &mut [u32])
+    ensures { CountsUp space.new }
+{
     let mut next: u32 = 1;
     for number in space.iter_mut() {
         *number = next;
@@ -41,7 +57,9 @@ fn count_up(space: &mut [u32]) {
     }
 }
 
-fn counts_up(space: &[u32]) -> bool {
+fn counts_up(space: &[u32]) -> bool
+    ensures { MatchBool result (CountsUp space.now) (CountsUp space.now → ⊥) }
+{
     let mut next: u32 = 1;
     for number in space {
         if *number != next {
@@ -52,7 +70,9 @@ fn counts_up(space: &[u32]) -> bool {
     true
 }
 
-fn is_zero(space: &[u32]) -> bool {
+fn is_zero(space: &[u32]) -> bool
+    ensures { MatchBool result (Zero space.now) (Zero space.now → ⊥) }
+{
     for number in space {
         if *number != 0 {
             return false;
