@@ -11,9 +11,11 @@ impl Size {
     pub fn grown(self) -> Result<Size, Decline>
         ensures { TakenIf (buckets_in self + 2 ^ self.x ≤ 16384) 9 (λ s. Grown self s) result }
     {
-        let last = self.j + 1 == self.settings.subtables();
-        let x = if last { self.x + 1 } else { self.x };
-        let j = if last { 0 } else { self.j + 1 };
+        let (x, j) = if self.j + 1 == self.settings.subtables() {
+            (self.x + 1, 0)
+        } else {
+            (self.x, self.j + 1)
+        };
         Size::new(self.settings, x, j).ok_or(Decline::TooManyBuckets)
     }
 
@@ -21,20 +23,21 @@ impl Size {
     pub fn shrunk(self) -> Result<Size, Decline>
         ensures { TakenIf ((self.x ≡ self.settings.start) × (self.j ≡ 0) → ⊥) 12 (λ s. Grown s self) result }
     {
+        let settings = self.settings;
         if self.j > 0 {
-            return Ok(Size {
-                settings: self.settings,
+            Ok(Size {
+                settings,
                 x: self.x,
                 j: self.j - 1,
-            });
-        }
-        if self.x > self.settings.start {
-            return Ok(Size {
-                settings: self.settings,
+            })
+        } else if self.x > settings.start {
+            Ok(Size {
+                settings,
                 x: self.x - 1,
-                j: self.settings.subtables() - 1,
-            });
+                j: settings.subtables() - 1,
+            })
+        } else {
+            Err(Decline::AtFloor)
         }
-        Err(Decline::AtFloor)
     }
 }

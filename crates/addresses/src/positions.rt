@@ -6,6 +6,7 @@ ghost use Rattle.addresses.specs.Sized.{buckets_in, place_in};
 use crate::sizes::{Settings, Size};
 
 // Choice i of a key with this hash word.
+#[tactic(auto, using(crate::proofs::Computed::chosen))]
 pub fn choice(word: u64, i: u32) -> u32
     ensures { result ≡ choice_of word i }
 {
@@ -16,20 +17,18 @@ pub fn choice(word: u64, i: u32) -> u32
 
 impl Settings {
     // The subtable of a choice: its top t bits.
+    #[tactic(auto, using(crate::proofs::Bounds::subtable_lt))]
     pub fn subtable(self, choice: u32) -> u32
         ensures number { result ≡ subtable_of self.t choice }
         ensures below { result < 2 ^ self.t }
     {
-        if self.t == 0 {
-            0
-        } else {
-            choice >> (32 - self.t)
-        }
+        choice.checked_shr(32 - self.t).unwrap_or(0)
     }
 }
 
 impl Size {
     // The bucket of a choice in its subtable g: its lowest bits.
+    #[tactic(auto, using(crate::proofs::Computed::masked))]
     pub fn bucket(self, g: u32, choice: u32) -> u32
         ensures number { result ≡ bucket_of self.x self.j g choice }
         ensures below { result < 2 ^ width_of self.x self.j g }

@@ -1,38 +1,30 @@
 -- Words and their bytes.
-use Rattle.std.proofs.Common.{◌≡◌, ℕ, ◌+◌, ◌*◌, ◌/◌, ◌%◌, ◌^◌, ◌<◌, ◌≤◌, List, [], ◌∷◌, ◌++◌, length, get_or, sym, ap, ◌∙◌, arith}
-use Rattle.std.proofs.lemmas.List.{drop_more, drop_all}
-use native.Mathlib.Nat.{div-div-eq-div-mul}
+use Rattle.std.proofs.Common.{◌≡◌, ◌≢◌, Bool, true, false, ◌&&◌, eqb, ℕ, ◌/◌, ◌%◌, ◌^◌, ◌<◌, List, [], ◌∷◌, ◌++◌, length, get_or, sym, refl, ap, ◌∙◌, arith}
+use Rattle.std.proofs.lemmas.List.FromFn.{fill_by_all}
+use Rattle.std.proofs.lemmas.Nat.{from_be_bytes-to_be_bytes_2, from_be_bytes-to_be_bytes_4}
+use Rattle.std.proofs.lemmas.Bool.Decides.{nat_tests}
+use Rattle.records.specs.declared.numbers.Words.{Words}
 use Rattle.records.specs.Bytes.{bytes8, bytes4, bytes2, word8, word4, word2}
 use Rattle.records.specs.Plates.{plate_bytes}
 
--- one digit more
-peel : (x m : ℕ) → x / m ≡ (x / (m * 256)) * 256 + x / m % 256
-peel x m = rw (← div-div-eq-div-mul x m 256) (omega arith)
+-- what `==` of two keys says: e is what the call ensures, and t or f the branch
+pub same_words : (a b : Words) (r : Bool) → r ≡ (eqb a.first b.first && eqb a.second b.second) → r ≡ true → a ≡ b
+same_words a b r e t =
+    let f : a.first ≡ b.first = grind (arith, nat_tests) in
+    let s : a.second ≡ b.second = grind (arith, nat_tests) in
+    λ i. record { first = f i; second = s i }
+
+pub other_words : (a b : Words) (r : Bool) → r ≡ (eqb a.first b.first && eqb a.second b.second) → r ≡ false → a ≢ b
+other_words a b r e f k =
+    let h : a.first ≡ b.first = ap (λ w. w.first) k in
+    let s : a.second ≡ b.second = ap (λ w. w.second) k in
+    absurd (grind (arith, nat_tests))
 
 pub word2_bytes : (x : ℕ) → x < 2 ^ 16 → word2 (bytes2 x) 0 ≡ x
-word2_bytes x h = omega arith
+word2_bytes x h = from_be_bytes-to_be_bytes_2 x h
 
 pub word4_bytes : (x : ℕ) → x < 2 ^ 32 → word4 (bytes4 x) 0 ≡ x
-word4_bytes x h =
-    let a : x / 256 ≡ (x / 65536) * 256 + x / 256 % 256 = peel x 256 in
-    let b : x / 65536 ≡ (x / 16777216) * 256 + x / 65536 % 256 = peel x 65536 in
-    let t : x / 16777216 < 256 = omega arith in
-    let m : x / 16777216 % 256 ≡ x / 16777216 = omega arith in
-    let z : x ≡ (x / 256) * 256 + x % 256 = omega arith in
-    omega arith
-
-pub word8_bytes : (x : ℕ) → x < 2 ^ 64 → word8 (bytes8 x) 0 ≡ x
-word8_bytes x h =
-    let a : x / 256 ≡ (x / 65536) * 256 + x / 256 % 256 = peel x 256 in
-    let b : x / 65536 ≡ (x / 16777216) * 256 + x / 65536 % 256 = peel x 65536 in
-    let c : x / 16777216 ≡ (x / 4294967296) * 256 + x / 16777216 % 256 = peel x 16777216 in
-    let d : x / 4294967296 ≡ (x / 1099511627776) * 256 + x / 4294967296 % 256 = peel x 4294967296 in
-    let e : x / 1099511627776 ≡ (x / 281474976710656) * 256 + x / 1099511627776 % 256 = peel x 1099511627776 in
-    let f : x / 281474976710656 ≡ (x / 72057594037927936) * 256 + x / 281474976710656 % 256 = peel x 281474976710656 in
-    let t : x / 72057594037927936 < 256 = omega arith in
-    let m : x / 72057594037927936 % 256 ≡ x / 72057594037927936 = omega arith in
-    let z : x ≡ (x / 256) * 256 + x % 256 = omega arith in
-    omega arith
+word4_bytes x h = from_be_bytes-to_be_bytes_4 x h
 
 pub bytes2_word : (a b : ℕ) → a < 256 → b < 256 → bytes2 (word2 (a ∷ b ∷ []) 0) ≡ a ∷ b ∷ []
 bytes2_word a b p q =
@@ -66,34 +58,7 @@ bytes8_word a b c d e f g h a< b< c< d< e< f< g< h< =
 
 twelve : (xs : List ℕ) → length xs ≡ 12 →
     xs ≡ get_or xs 0 0 ∷ get_or xs 1 0 ∷ get_or xs 2 0 ∷ get_or xs 3 0 ∷ get_or xs 4 0 ∷ get_or xs 5 0 ∷ get_or xs 6 0 ∷ get_or xs 7 0 ∷ get_or xs 8 0 ∷ get_or xs 9 0 ∷ get_or xs 10 0 ∷ get_or xs 11 0 ∷ []
-twelve xs l =
-    let p0 : 0 < length xs = omega arith in
-    let e0 = drop_more xs 0 0 p0 in
-    let p1 : 1 < length xs = omega arith in
-    let e1 = drop_more xs 1 0 p1 in
-    let p2 : 2 < length xs = omega arith in
-    let e2 = drop_more xs 2 0 p2 in
-    let p3 : 3 < length xs = omega arith in
-    let e3 = drop_more xs 3 0 p3 in
-    let p4 : 4 < length xs = omega arith in
-    let e4 = drop_more xs 4 0 p4 in
-    let p5 : 5 < length xs = omega arith in
-    let e5 = drop_more xs 5 0 p5 in
-    let p6 : 6 < length xs = omega arith in
-    let e6 = drop_more xs 6 0 p6 in
-    let p7 : 7 < length xs = omega arith in
-    let e7 = drop_more xs 7 0 p7 in
-    let p8 : 8 < length xs = omega arith in
-    let e8 = drop_more xs 8 0 p8 in
-    let p9 : 9 < length xs = omega arith in
-    let e9 = drop_more xs 9 0 p9 in
-    let p10 : 10 < length xs = omega arith in
-    let e10 = drop_more xs 10 0 p10 in
-    let p11 : 11 < length xs = omega arith in
-    let e11 = drop_more xs 11 0 p11 in
-    let z : length xs ≤ 12 = omega arith in
-    let e = drop_all 12 xs z in
-    cc
+twelve xs l = fill_by_all (λ k. get_or xs k 0) xs 12 0 l (λ k h. refl)
 
 -- 12 bytes are those of their words
 pub plate_words_lem : (xs : List ℕ) → length xs ≡ 12 → ((i : ℕ) → get_or xs i 0 < 256) → plate_bytes (word8 xs 0) (word4 xs 8) ≡ xs

@@ -1,10 +1,10 @@
 -- Lists of bytes, and numbers as bytes, the highest byte first.
-use Rattle.std.specs.Prelude.{ℕ, ◌+◌, ◌*◌, ◌/◌, ◌%◌, Bool, true, false, cond, List, [], ◌∷◌, ◌==◌, slice_index}
+use Rattle.std.specs.Prelude.{ℕ, ◌+◌, ◌*◌, ◌/◌, ◌%◌, Bool, List, [], ◌∷◌, ◌==◌, slice_index}
+use Rattle.std.specs.List.{list_all}
 
 -- every byte has the value v
 unfoldable pub all_are_lem : ℕ → List ℕ → Bool
-all_are_lem v [] = true
-all_are_lem v (x ∷ xs) = cond (x == v) (all_are_lem v xs) false
+all_are_lem v xs = list_all (λ x. x == v) xs
 
 -- the two, four or eight bytes of a number
 abbrev pub bytes2 : ℕ → List ℕ

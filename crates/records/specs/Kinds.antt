@@ -1,15 +1,27 @@
--- The two record kinds: the words of a key, a record's numbers, and what plain numbers make.
+-- The two record kinds: their numbers, the words of a key, a record's numbers, and what plain numbers make.
 use Rattle.std.specs.Prelude.{◌≡◌, ℕ, ◌≤◌, Bool, true, false, Ok, Err, Result, refl}
 use Rattle.std.proofs.Math.Decide.{dec_le}
 use Rattle.records.specs.declared.declines.Decline.{Decline}
 use Rattle.records.specs.declared.declines.Decline.TheVariants.{NoPlate, OutOfRange}
+use Rattle.records.specs.declared.kind.RecordKind.{RecordKind}
+use Rattle.records.specs.declared.kind.RecordKind.TheVariants.{Tare, Tag}
 use Rattle.records.specs.declared.numbers.Words.{Words}
 use Rattle.records.specs.declared.numbers.TagNumbers.{TagNumbers}
 use Rattle.records.specs.declared.numbers.TareNumbers.{TareNumbers}
 use Rattle.records.specs.declared.plates.Plate.{Plate}
 use Rattle.records.specs.declared.records.TagRecord.{TagRecord}
 use Rattle.records.specs.declared.records.TareRecord.{TareRecord}
+use Rattle.records.specs.Declines.{TakenIf}
 use Rattle.records.specs.Plates.{is_plate}
+
+-- the number by which a module names a kind
+abbrev pub kind_number : RecordKind → ℕ
+kind_number Tare = 1
+kind_number Tag = 2
+
+-- The number 1 or 2 gives the kind that it names; each other number is declined with 14.
+abbrev pub Named : ℕ → Result RecordKind Decline → Type 0
+Named n = TakenIf ((1 ≤ n) × (n ≤ 2)) 14 (λ k. kind_number k ≡ n)
 
 -- a tag's words are 0 and the tag
 abbrev pub tag_words : ℕ → Words

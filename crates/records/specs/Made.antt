@@ -1,6 +1,6 @@
 -- What plain numbers make.
 use Rattle.std.specs.Prelude.{◌≡◌, ℕ, ◌≤◌, Bool, true, false, ◌⊎◌, Ok, Err, Result, ◌≢◌, refl}
-use Rattle.std.proofs.Common.{sym, ap, ap₂, ◌∙◌, inl, inr, arith}
+use Rattle.std.proofs.Common.{sym, ap, ap₂, ◌∙◌, inl, inr}
 use mathlib.Core.HLevel.{is_prop→PathP}
 use Rattle.std.proofs.Math.Bool.{Bool-set}
 use Rattle.std.proofs.Math.Decide.{dec_le}
@@ -116,8 +116,8 @@ tare_if_alone p t d r e = go (dec_le 1 t) (dec_le t 100000) e
     go (yes l) (yes h) e =
         let z : record { plate = p; tare = t; day = d; low = l; high = h } ≡ r = cc in
         (sym (ap (λ r. r.plate) z), sym (ap (λ r. r.tare) z), sym (ap (λ r. r.day) z))
-    go (yes l) (no h) e = let z : ◌≡◌ {A = ℕ} 0 1 = cc in absurd (omega arith)
-    go (no l) b e = let z : ◌≡◌ {A = ℕ} 0 1 = cc in absurd (omega arith)
+    go (yes l) (no h) e = absurd cc
+    go (no l) b e = absurd cc
 
 pub tare_alone : (n : TareNumbers) (r : TareRecord) → made_tare n ≡ Ok r → tare_numbers r ≡ n
 unfolding made_tare plated_if
@@ -127,14 +127,14 @@ tare_alone n r e = go (is_plate n.first n.second) refl e
     go true k e =
         let z = tare_if_alone (record { first = n.first; second = n.second; lawful = k }) n.tare n.day r e in
         λ i. record { first = (z.0 i).first; second = (z.0 i).second; tare = z.1 i; day = z.2 i }
-    go false k e = let z : ◌≡◌ {A = ℕ} 0 1 = cc in absurd (omega arith)
+    go false k e = absurd cc
 
 pub tare_numbers_lem : (n : TareNumbers) (d : Decline) → made_tare n ≡ Err d → (number d ≡ 3) ⊎ (number d ≡ 4)
 unfolding made_tare plated_if tare_if
 tare_numbers_lem n d e = go (is_plate n.first n.second) refl e
   where
     by : (p : Plate) (c : Dec (1 ≤ n.tare)) (b : Dec (n.tare ≤ 100000)) → tare_if p n.tare n.day c b ≡ Err d → (number d ≡ 3) ⊎ (number d ≡ 4)
-    by p (yes l) (yes h) e = let z : ◌≡◌ {A = ℕ} 0 1 = cc in absurd (omega arith)
+    by p (yes l) (yes h) e = absurd cc
     by p (yes l) (no h) e = let z : OutOfRange ≡ d = cc in inr (sym (ap number z))
     by p (no l) b e = let z : OutOfRange ≡ d = cc in inr (sym (ap number z))
 

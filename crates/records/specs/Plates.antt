@@ -1,5 +1,6 @@
 -- What a plate is: over its characters as typed, over its 12 bytes, and over its two words.
 use Rattle.std.specs.Prelude.{◌≡◌, ℕ, ◌-◌, ◌≤◌, Bool, true, false, cond, ◌&&◌, ◌||◌, List, [], ◌∷◌, ◌++◌, length, replicate, nat_le}
+use Rattle.std.specs.List.{list_all}
 use Rattle.records.specs.Bytes.{all_are_lem, bytes4, bytes8}
 
 -- A to Z or 0 to 9
@@ -7,8 +8,7 @@ unfoldable pub character : ℕ → Bool
 character c = (nat_le 48 c && nat_le c 57) || (nat_le 65 c && nat_le c 90)
 
 unfoldable pub all_characters_lem : List ℕ → Bool
-all_characters_lem [] = true
-all_characters_lem (x ∷ xs) = cond (character x) (all_characters_lem xs) false
+all_characters_lem xs = list_all character xs
 
 -- what a plate looks like as typed
 abbrev pub Text : List ℕ → Type 0

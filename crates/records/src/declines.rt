@@ -1,8 +1,12 @@
 // Why a call declines. Each case has its number, from 1 to 19.
-ghost use Rattle.std.specs.Prelude.{◌≡◌};
+ghost use Rattle.std.specs.Prelude.{◌≡◌, Some};
+ghost use Rattle.std.specs.Fmt.{decimal};
 ghost use Rattle.records.specs.Declines.{number};
 
-#[derive(Clone, Copy)]
+use std::error::Error;
+use std::fmt;
+
+#[derive(Clone, Copy, Debug, PartialEq, Eq, Hash)]
 pub enum Decline {
     // a setting is outside its range
     BadSetting = 1,
@@ -52,3 +56,14 @@ impl Decline {
         self as u8
     }
 }
+
+// It is printed by its number.
+impl fmt::Display for Decline {
+    ghost output = { λ d. Some (decimal (number d)) };
+
+    fn fmt<W: fmt::Write>(&self, f: &mut fmt::Formatter<W>) -> fmt::Result {
+        write!(f, "{}", self.number())
+    }
+}
+
+impl Error for Decline {}

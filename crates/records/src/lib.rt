@@ -4,6 +4,7 @@
 pub mod bytes;
 pub mod characters;
 pub mod declines;
+pub mod kind;
 pub mod kinds;
 pub mod numbers;
 pub mod plates;

@@ -1,5 +1,5 @@
 // Plates, lawful by what they are.
-ghost use Rattle.std.specs.Prelude.{◌≡◌, ◌-◌, ◌^◌, ◌<◌, ◌≤◌, true, ◌++◌, length, replicate};
+ghost use Rattle.std.specs.Prelude.{◌≡◌, ◌^◌, ◌<◌, true, length};
 ghost use Rattle.records.specs.Bytes.{word4, word8};
 ghost use Rattle.records.specs.Declines.{TakenIf};
 ghost use Rattle.records.specs.Plates.{Text, is_plate, padded, plate_bytes, plate_in};
@@ -10,29 +10,24 @@ use crate::declines::Decline;
 use crate::numbers::Words;
 
 // One to twelve characters, padded with blanks to 12 bytes: the first eight bytes and the last four, big-endian.
-#[derive(Clone, Copy)]
+#[derive(Clone, Copy, Debug, PartialEq, Eq)]
 pub struct Plate {
     pub first: u64,
     pub second: u32,
     ghost lawful: { is_plate first second ≡ true },
 }
 
+// Two of these read bytes, which one `TryFrom` could not tell apart; the third is named as they are.
 impl Plate {
     // The plate with these characters, as typed: any bytes, any length.
     pub fn from_text(text: &[u8]) -> Result<Plate, Decline>
         ensures { TakenIf (Text text.now) 3 (λ p. (p.first ≡ word8 (padded text.now) 0) × (p.second ≡ word4 (padded text.now) 8)) result }
     {
-        if text.len() < 1 {
-            return Err(Decline::NoPlate);
-        }
-        if text.len() > 12 {
-            return Err(Decline::NoPlate);
-        }
-        if !all_characters(text) {
+        if text.is_empty() || text.len() > 12 || !all_characters(text) {
             return Err(Decline::NoPlate);
         }
         let mut bytes = [b' '; 12];
-        pad(&mut bytes, text);
+        bytes[..text.len()].copy_from_slice(text);
         Plate::from_bytes(&bytes)
     }
 
@@ -50,18 +45,16 @@ impl Plate {
     pub fn from_words(words: Words) -> Result<Plate, Decline>
         ensures { TakenIf ((words.second < 2 ^ 32) × (is_plate words.first words.second ≡ true)) 3 (λ p. (p.first ≡ words.first) × (p.second ≡ words.second)) result }
     {
-        if words.second > 0xffff_ffff {
-            return Err(Decline::NoPlate);
-        }
-        Plate::from_parts(words.first, words.second as u32)
+        let second = u32::try_from(words.second).map_err(|_| Decline::NoPlate)?;
+        Plate::from_parts(words.first, second)
     }
 
     // The plate with this first word and this half of the second.
+    #[tactic(auto, unfolding(crate::specs::Plates::is_plate))]
     pub(crate) fn from_parts(first: u64, second: u32) -> Result<Plate, Decline>
         ensures { TakenIf (is_plate first second ≡ true) 3 (λ p. (p.first ≡ first) × (p.second ≡ second)) result }
     {
-        let bytes = spelled(first, second);
-        if is_padded(&bytes) {
+        if is_padded(&spelled(first, second)) {
             Ok(Plate { first, second })
         } else {
             Err(Decline::NoPlate)
@@ -80,19 +73,8 @@ impl Plate {
 fn spelled(first: u64, second: u32) -> [u8; 12]
     ensures { result ≡ plate_bytes first second }
 {
-    let a = first.to_be_bytes();
-    let b = second.to_be_bytes();
-    [
-        a[0], a[1], a[2], a[3], a[4], a[5], a[6], a[7], b[0], b[1], b[2], b[3],
-    ]
-}
-
-// Puts a text before blanks.
-fn pad(into: &mut [u8], text: &[u8])
-    requires blank { into.old ≡ replicate 12 32 }
-    requires short { length text.now ≤ 12 }
-    ensures { into.new ≡ padded text.now }
-{
-    let n = text.len();
-    into[0..n].copy_from_slice(text);
+    let mut bytes = [0; 12];
+    bytes[..8].copy_from_slice(&first.to_be_bytes());
+    bytes[8..].copy_from_slice(&second.to_be_bytes());
+    bytes
 }

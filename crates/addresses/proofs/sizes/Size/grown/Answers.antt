@@ -10,8 +10,8 @@ use Rattle.addresses.proofs.sizes.Size.grown.Goals as goal
 pub returns : goal.returns
 returns c =
     let z = c.args.self in
-    let x : c.if-last.x ≡ grown_x z.settings.t z.x z.j = grind arith in
-    let j : c.if-last-2.j ≡ grown_j z.settings.t z.x z.j = grind arith in
+    let x : c.if-self-subtables.x.0 ≡ grown_x z.settings.t z.x z.j = grind arith in
+    let j : c.if-self-subtables.x.1 ≡ grown_j z.settings.t z.x z.j = grind arith in
     rw c.ok_or.ensures.value
     (taken_from TooManyBuckets c.new.result c.new.ensures
     (λ h. grown_fits z.settings.t z.x z.j _ _ z.settings.start x j z.below z.floor h)

@@ -1,5 +1,0 @@
-use Rattle.addresses.proofs.Steps.{a_grow_adds}
-use Rattle.addresses.proofs.laws.a_grow_adds.Goals as goal
-
-pub returns : goal.returns
-returns c = a_grow_adds
