@@ -1,5 +1,5 @@
 -- The fields of a cell, byte by byte.
-use Rattle.std.proofs.Common.{◌≡◌, ℕ, zero, suc, ◌+◌, ◌-◌, ◌<◌, ◌≤◌, Bool, true, false, cond, eqb, List, [], ◌∷◌, ◌++◌, length, get_or, drop, replicate, sym, refl, ap, ◌∙◌, arith}
+use Rattle.std.proofs.Common.{◌≡◌, ℕ, zero, suc, ◌+◌, ◌-◌, ◌<◌, ◌≤◌, Bool, true, false, ◌&&◌, eqb, List, [], ◌∷◌, ◌++◌, length, get_or, drop, replicate, sym, refl, ap, ◌∙◌, arith}
 use Rattle.std.proofs.lemmas.List.{drop_more, length-drop}
 use Rattle.std.proofs.lemmas.Bool.{eqb-true}
 use Rattle.records.specs.Bytes.{all_are_lem, bytes2, bytes4, bytes8, word2, word4, word8}
@@ -22,7 +22,7 @@ unfolding all_are_lem
 are_replicate v [] e = refl
 are_replicate v (x ∷ xs) e = by (eqb x v) refl (λ k. are_replicate v xs k) e
   where
-    by : (b : Bool) → eqb x v ≡ b → (all_are_lem v xs ≡ true → xs ≡ replicate (length xs) v) → cond b (all_are_lem v xs) false ≡ true → x ∷ xs ≡ replicate (length (x ∷ xs)) v
+    by : (b : Bool) → eqb x v ≡ b → (all_are_lem v xs ≡ true → xs ≡ replicate (length xs) v) → (b && all_are_lem v xs) ≡ true → x ∷ xs ≡ replicate (length (x ∷ xs)) v
     by true k f e = let h = eqb-true x v k in let t = f e in cc
     by false k f e = let z : ◌≡◌ {A = ℕ} 0 1 = cc in absurd (omega arith)
 

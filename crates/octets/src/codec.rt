@@ -1,6 +1,6 @@
 // One codec for all record kinds: a cell as 32 bytes.
 ghost use Rattle.std.specs.Prelude.{◌≡◌, IfSome, Some};
-ghost use Rattle.octets.specs.Codec.{coded, decoded, encoded, in_cell, shaped};
+ghost use Rattle.octets.specs.Codec.{coded, shaped};
 
 use crate::kinds::Coded;
 use records::bytes::{all_are, byte_at};
@@ -11,22 +11,16 @@ use stores::cells::Cell;
 fn is_shaped(bytes: &[u8], kind: u8, end: usize) -> bool
     ensures { result ≡ shaped kind end bytes.now }
 {
-    if bytes.len() != 32 {
-        return false;
-    }
-    if byte_at(bytes, 0) != 1 {
-        return false;
-    }
-    if byte_at(bytes, 1) != kind {
-        return false;
-    }
-    all_are(bytes, end, 0)
+    bytes.len() == 32
+        && byte_at(bytes, 0) == 1
+        && byte_at(bytes, 1) == kind
+        && all_are(bytes, end, 0)
 }
 
 // The record that these bytes spell, if they do. Written again it gives the same bytes.
 pub fn decode<R: Coded>(bytes: &[u8]) -> Option<R>
-    ensures value { result ≡ decoded R.Coded.kind R.Coded.end R.Coded.numbers_in R.Record.made bytes.now }
-    ensures back { IfSome result (λ x. encoded R.Coded.kind R.Coded.fields R.Record.numbers_of x ≡ bytes.now) }
+    ensures value { result ≡ R.Coded.record_in bytes.now }
+    ensures back { IfSome result (λ x. R.Coded.bytes_of x ≡ bytes.now) }
 {
     if !is_shaped(bytes, R::kind(), R::end()) {
         return None;
@@ -36,11 +30,11 @@ pub fn decode<R: Coded>(bytes: &[u8]) -> Option<R>
 
 // The 32 bytes of a cell. Read again they give the same cell.
 pub fn encode<R: Coded>(cell: Cell<R>) -> [u8; 32]
-    ensures bytes { result ≡ coded (encoded R.Coded.kind R.Coded.fields R.Record.numbers_of) cell }
-    ensures back { in_cell (decoded R.Coded.kind R.Coded.end R.Coded.numbers_in R.Record.made result) ≡ cell }
+    ensures bytes { result ≡ coded R.Coded.bytes_of cell }
+    ensures back { R.Coded.record_in result ≡ cell }
 {
     let mut code = [0; 32];
-    if let Cell::Holds(held) = cell {
+    if let Some(held) = cell {
         let fields = R::fields_of(held.to_numbers());
         code[0] = 1;
         code[1] = R::kind();

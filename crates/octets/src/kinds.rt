@@ -1,11 +1,13 @@
 // Where the fields of each record kind lie in the 32 bytes of a cell.
-ghost use Rattle.std.specs.Prelude.{◌≡◌, ℕ, ◌≤◌, true, List, ◌∷◌, length, drop};
+ghost use Rattle.std.specs.Prelude.{◌≡◌, ℕ, ◌≤◌, true, List, ◌∷◌, length, drop, Option};
 ghost use Rattle.std.proofs.Math.Path.{refl};
 ghost use Rattle.records.specs.Bytes.{all_are_lem};
-ghost use Rattle.octets.specs.Kinds.{tag_fields, tag_in, tare_fields, tare_in};
+ghost use Rattle.octets.specs.Codec.{decoded, encoded};
+ghost use Rattle.octets.specs.Kinds.{tag_decoded, tag_encoded, tag_fields, tag_in, tare_decoded, tare_encoded, tare_fields, tare_in};
 ghost use Rattle.std.proofs.Common.{rules};
 
 use records::bytes::{byte_at, u16_at, u32_at, u64_at};
+use records::kind::RecordKind;
 use records::kinds::Record;
 use records::numbers::{TagNumbers, TareNumbers};
 use records::records::{TagRecord, TareRecord};
@@ -22,6 +24,13 @@ pub trait Coded: Record {
     // bytes 2 to 31 of a cell with these plain numbers
     ghost fields: { Self.Numbers → List ℕ };
 
+    // the record that bytes spell, if they do
+    ghost record_in: { List ℕ → Option Self };
+
+    // the 32 bytes of a record
+    ghost bytes_of: { Self → List ℕ };
+
+    // a number, as a cell's second byte has it
     fn kind() -> u8
         ensures { result ≡ kind };
 
@@ -43,6 +52,12 @@ pub trait Coded: Record {
 
     // those from `end` on are 0
     ghost blank: { (n : Self.Numbers) → all_are_lem 0 (drop end (1 ∷ kind ∷ fields n)) ≡ true };
+
+    // bytes spell a record where they have its shape and their numbers make it
+    ghost reads: { (c : List ℕ) → record_in c ≡ decoded kind end numbers_in Self.made c };
+
+    // and a record is spelled by its own numbers
+    ghost writes: { (r : Self) → bytes_of r ≡ encoded kind fields Self.numbers_of r };
 }
 
 impl Coded for TareRecord {
@@ -54,12 +69,20 @@ impl Coded for TareRecord {
 
     ghost fields = { tare_fields };
 
+    ghost record_in = { tare_decoded };
+
+    ghost bytes_of = { tare_encoded };
+
     ghost thirty = { Prim.search rules };
 
     ghost blank = { unfold all_are_lem in λ n. refl };
 
+    ghost reads = { λ c. refl };
+
+    ghost writes = { λ r. refl };
+
     fn kind() -> u8 {
-        1
+        RecordKind::Tare.number()
     }
 
     fn end() -> usize {
@@ -76,14 +99,12 @@ impl Coded for TareRecord {
     }
 
     fn fields_of(numbers: TareNumbers) -> [u8; 30] {
-        let f = numbers.first.to_be_bytes();
-        let s = numbers.second.to_be_bytes();
-        let t = numbers.tare.to_be_bytes();
-        let d = numbers.day.to_be_bytes();
-        [
-            f[0], f[1], f[2], f[3], f[4], f[5], f[6], f[7], s[0], s[1], s[2], s[3], t[0], t[1],
-            t[2], t[3], d[0], d[1], 0, 0, 0, 0, 0, 0, 0, 0, 0, 0, 0, 0,
-        ]
+        let mut fields = [0; 30];
+        fields[0..8].copy_from_slice(&numbers.first.to_be_bytes());
+        fields[8..12].copy_from_slice(&numbers.second.to_be_bytes());
+        fields[12..16].copy_from_slice(&numbers.tare.to_be_bytes());
+        fields[16..18].copy_from_slice(&numbers.day.to_be_bytes());
+        fields
     }
 }
 
@@ -96,12 +117,20 @@ impl Coded for TagRecord {
 
     ghost fields = { tag_fields };
 
+    ghost record_in = { tag_decoded };
+
+    ghost bytes_of = { tag_encoded };
+
     ghost thirty = { Prim.search rules };
 
     ghost blank = { unfold all_are_lem in λ n. refl };
 
+    ghost reads = { λ c. refl };
+
+    ghost writes = { λ r. refl };
+
     fn kind() -> u8 {
-        2
+        RecordKind::Tag.number()
     }
 
     fn end() -> usize {
@@ -117,39 +146,10 @@ impl Coded for TagRecord {
     }
 
     fn fields_of(numbers: TagNumbers) -> [u8; 30] {
-        let t = numbers.tag.to_be_bytes();
-        let g = numbers.grower.to_be_bytes();
-        [
-            t[0],
-            t[1],
-            t[2],
-            t[3],
-            t[4],
-            t[5],
-            t[6],
-            t[7],
-            g[0],
-            g[1],
-            g[2],
-            g[3],
-            numbers.grain,
-            0,
-            0,
-            0,
-            0,
-            0,
-            0,
-            0,
-            0,
-            0,
-            0,
-            0,
-            0,
-            0,
-            0,
-            0,
-            0,
-            0,
-        ]
+        let mut fields = [0; 30];
+        fields[0..8].copy_from_slice(&numbers.tag.to_be_bytes());
+        fields[8..12].copy_from_slice(&numbers.grower.to_be_bytes());
+        fields[12] = numbers.grain;
+        fields
     }
 }

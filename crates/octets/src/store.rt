@@ -1,9 +1,8 @@
 // The byte store: a lent slice of bytes, 32 to a cell, for any record kind that has a code.
-ghost use Rattle.std.specs.Prelude.{◌≡◌, slice_index_or};
-ghost use Rattle.stores.specs.declared.cells.Cell.TheVariants.{Empty};
+ghost use Rattle.std.specs.Prelude.{◌≡◌, slice_index_or, None};
 ghost use Rattle.stores.specs.Cells.{after, asked, numbered, read_of, write_of};
 ghost use Rattle.stores.specs.Makings.{at_name, of_bytes};
-ghost use Rattle.octets.specs.Codec.{byte_row, bytes_after, cell_at_lem, cell_bytes, cells_of, coded, decoded, encoded, lawful_at};
+ghost use Rattle.octets.specs.Codec.{byte_row, bytes_after, cell_at_lem, cell_bytes, cells_of, coded, lawful_at};
 
 use crate::codec::{decode, encode};
 use crate::kinds::Coded;
@@ -12,14 +11,14 @@ use records::declines::Decline;
 use records::kinds::Record;
 use stores::cells::Cell;
 use stores::plain::MOST;
+use stores::row::Row;
 use stores::store::{Store, asked_cell};
 
 // The whole cells of a slice of bytes.
 pub fn bytes_length(bytes: &[u8]) -> u64
     ensures { result ≡ cells_of bytes.now }
 {
-    let n = bytes.len() as u64 / 32;
-    if n < MOST { n } else { MOST }
+    (bytes.len() as u64 / 32).min(MOST)
 }
 
 // The 32 bytes of a cell, fewer where the slice ends before.
@@ -27,48 +26,38 @@ pub fn cell_part(bytes: &[u8], at: usize) -> &[u8]
     ensures { result.now ≡ cell_bytes bytes.now at }
 {
     let end = bytes.len();
-    if at >= end / 32 + 1 {
-        return &bytes[end..end];
-    }
-    let from = 32 * at;
-    let to = if end - from < 32 { end } else { from + 32 };
-    &bytes[from..to]
+    let from = at.saturating_mul(32).min(end);
+    &bytes[from..from.saturating_add(32).min(end)]
 }
 
 // A cell: unlawful bytes, and bytes past the end, count as empty.
 pub fn cell_at<R: Coded>(bytes: &[u8], at: usize) -> Cell<R>
-    ensures { result ≡ cell_at_lem (decoded R.Coded.kind R.Coded.end R.Coded.numbers_in R.Record.made) bytes.now at }
+    ensures { result ≡ cell_at_lem R.Coded.record_in bytes.now at }
 {
-    match decode::<R>(cell_part(bytes, at)) {
-        Some(held) => Cell::Holds(held),
-        None => Cell::Empty,
-    }
+    decode(cell_part(bytes, at))
 }
 
 // Whether a cell's bytes are all 0 or those of a record.
 pub fn is_lawful<R: Coded>(bytes: &[u8], at: usize) -> bool
-    ensures { result ≡ lawful_at (decoded R.Coded.kind R.Coded.end R.Coded.numbers_in R.Record.made) bytes.now at }
+    ensures { result ≡ lawful_at R.Coded.record_in bytes.now at }
 {
     let part = cell_part(bytes, at);
-    if all_are(part, 0, 0) {
-        return true;
-    }
-    decode::<R>(part).is_some()
+    all_are(part, 0, 0) || decode::<R>(part).is_some()
 }
 
 // The named cell, empty at or past the end.
 pub fn cell_or_empty<R: Coded>(bytes: &[u8], at: u64) -> Cell<R>
-    ensures { result ≡ slice_index_or (byte_row (decoded R.Coded.kind R.Coded.end R.Coded.numbers_in R.Record.made) bytes.now) at Empty }
+    ensures { result ≡ slice_index_or (byte_row R.Coded.record_in bytes.now) at None }
 {
     if at >= bytes_length(bytes) {
-        return Cell::Empty;
+        return None;
     }
-    cell_at::<R>(bytes, at as usize)
+    cell_at(bytes, at as usize)
 }
 
 // The named cell.
 pub fn bytes_read<R: Coded>(bytes: &[u8], at: u64) -> Result<Cell<R>, Decline>
-    ensures { numbered result ≡ read_of (byte_row (decoded R.Coded.kind R.Coded.end R.Coded.numbers_in R.Record.made) bytes.now) at }
+    ensures { numbered result ≡ read_of (byte_row R.Coded.record_in bytes.now) at }
 {
     if at >= bytes_length(bytes) {
         return Err(Decline::NoSuchCell);
@@ -82,9 +71,9 @@ pub fn bytes_write<R: Coded>(
     at: u64,
     cell: &Cell<R::Numbers>,
 ) -> Result<(), Decline>
-    ensures answer { numbered result ≡ write_of (asked R.Record.made cell.now) (byte_row (decoded R.Coded.kind R.Coded.end R.Coded.numbers_in R.Record.made) bytes.old) at }
-    ensures cells { byte_row (decoded R.Coded.kind R.Coded.end R.Coded.numbers_in R.Record.made) bytes.new ≡ after (asked R.Record.made cell.now) (byte_row (decoded R.Coded.kind R.Coded.end R.Coded.numbers_in R.Record.made) bytes.old) at }
-    ensures raw { bytes.new ≡ bytes_after (encoded R.Coded.kind R.Coded.fields R.Record.numbers_of) (asked R.Record.made cell.now) bytes.old at }
+    ensures answer { numbered result ≡ write_of (asked R.Record.made cell.now) (byte_row R.Coded.record_in bytes.old) at }
+    ensures cells { byte_row R.Coded.record_in bytes.new ≡ after (asked R.Record.made cell.now) (byte_row R.Coded.record_in bytes.old) at }
+    ensures raw { bytes.new ≡ bytes_after R.Coded.bytes_of (asked R.Record.made cell.now) bytes.old at }
 {
     let wanted = asked_cell::<R>(cell)?;
     if at >= bytes_length(bytes) {
@@ -103,13 +92,13 @@ pub struct ByteStore<'a> {
 }
 
 impl<R: Coded> Store<R> for ByteStore<'_> {
-    ghost cells = { λ s. byte_row (decoded R.Coded.kind R.Coded.end R.Coded.numbers_in R.Record.made) s.bytes.now };
+    ghost cells = { λ s. byte_row R.Coded.record_in s.bytes.now };
 
     ghost place = { λ s. at_name s.bytes.ghost_name };
 
     ghost raw = { λ s k. of_bytes (cell_bytes s.bytes.now k) };
 
-    ghost code = { λ s k v. of_bytes (coded (encoded R.Coded.kind R.Coded.fields R.Record.numbers_of) v) };
+    ghost code = { λ s k v. of_bytes (coded R.Coded.bytes_of v) };
 
     fn length(&self) -> u64 {
         bytes_length(self.bytes)
@@ -121,5 +110,19 @@ impl<R: Coded> Store<R> for ByteStore<'_> {
 
     fn write(&mut self, at: u64, cell: &Cell<R::Numbers>) -> Result<(), Decline> {
         bytes_write::<R>(self.bytes, at, cell)
+    }
+}
+
+// The cells of a slice of bytes that is only read.
+#[derive(Clone, Copy)]
+pub struct ByteRow<'a> {
+    pub bytes: &'a [u8],
+}
+
+impl<R: Coded> Row<R> for ByteRow<'_> {
+    ghost cells = { λ s. byte_row R.Coded.record_in s.bytes.now };
+
+    fn cell(&self, at: u32) -> Cell<R> {
+        cell_or_empty(self.bytes, u64::from(at))
     }
 }

@@ -1,11 +1,11 @@
 -- A new key and the stored ones lie as an assignment gives them once its record took a route.
+use Rattle.std.specs.Prelude.{Some}
 use Rattle.std.proofs.Common.{◌≡◌, ℕ, ◌*◌, ◌≤◌, Bool, false, List, ◌∷◌, Decides, sym, refl, subst, arith}
 use Rattle.std.proofs.lemmas.Bool.{false≢true}
 use Rattle.assignment.specs.Assign.{In, Part, count}
 use Rattle.assignment.proofs.Counts.{count_lt, count_none, passes_alone}
 use Rattle.assignment.proofs.Parts.{restricted}
 use Rattle.assignment.proofs.Places.{count_map}
-use Rattle.stores.specs.declared.cells.Cell.TheVariants.{Holds}
 use Rattle.rules.specs.Placements.{Placement, Lawful, Route, handed, word}
 use Rattle.rules.specs.Stored.{Lying, keys_below, located, placement_in, stored_keys}
 use Rattle.rules.specs.Tables.{own_buckets}
@@ -37,13 +37,13 @@ keys_after :
     {R K : Type 0} (key : R → K) (f : Placement R) → Lawful f → (r : R) (c : ℕ) (path : List ℕ) → Route f (word f r) c path →
     (p : K → Bool) →
     count p (key r ∷ keys_below key f.held (f.size * f.cells))
-    ≡ count p (keys_below key (handed (c ∷ path) (Holds r) f.held) (f.size * f.cells))
+    ≡ count p (keys_below key (handed (c ∷ path) (Some r) f.held) (f.size * f.cells))
 keys_after {R} key f law r c path route p =
     let n = f.size * f.cells in
     let k : ℕ × R → _ = λ q. key q.1 in
     let a = count_map p k (located f.held n) in
-    let b = count_map p k (located (handed (c ∷ path) (Holds r) f.held) n) in
-    let h = count_handed f law (λ q. p (key q)) c path (Holds r) (own_used f law (word f r) c route.own) route.path route.apart in
+    let b = count_map p k (located (handed (c ∷ path) (Some r) f.held) n) in
+    let h = count_handed f law (λ q. p (key q)) c path (Some r) (own_used f law (word f r) c route.own) route.path route.apart in
     omega arith
 
 pub an_insert_is_an_assignment : {R K : Type 0} → AnInsertIsAnAssignment R K

@@ -1,10 +1,9 @@
 -- How many of some cells hold a record.
+use Rattle.std.specs.Prelude.{Some, None, Option}
 use Rattle.std.proofs.Common.{◌≡◌, ℕ, zero, suc, ◌+◌, ◌<◌, ◌≤◌, Bool, true, false, cond, ◌||◌, eqb, List, [], ◌∷◌, get_or, refl, ap, subst, inl, inr, arith}
 use Rattle.std.proofs.lemmas.Bool.{cases_eq, eq-eqb, eqb-true, ne_eqb, or_from, or_left, or_right}
 use Rattle.assignment.specs.Assign.{In, count}
 use Rattle.assignment.proofs.Counts.{count_none}
-use Rattle.stores.specs.declared.cells.Cell.{Cell}
-use Rattle.stores.specs.declared.cells.Cell.TheVariants.{Empty, Holds}
 use Rattle.rules.specs.Placements.{Apart}
 use Rattle.rules.specs.Stored.{located}
 use Rattle.rules.proofs.Handings.{not_again}
@@ -44,39 +43,39 @@ among_out [] x n = refl
 among_out (c ∷ cs) x n = or_from (eqb x c) (among cs x) (ne_eqb x c (λ e. n (inl e))) (among_out cs x (λ i. n (inr i)))
 
 -- how many of some cells hold a record
-abbrev pub filled : {R : Type 0} → List (Cell R) → List ℕ → ℕ
+abbrev pub filled : {R : Type 0} → List (Option R) → List ℕ → ℕ
 filled cs [] = 0
-filled cs (c ∷ path) = weight each c (get_or cs c Empty) + filled cs path
+filled cs (c ∷ path) = weight each c (get_or cs c None) + filled cs path
 
-module _ {R : Type 0} (cs : List (Cell R)) where
-  here_only : (c n : ℕ) (o : Cell R) → n ≡ c → weight (λ (p : ℕ × R). eqb p.0 c) n o ≡ weight each c o
-  here_only c n Empty e = refl
-  here_only c n (Holds r) e = ap (λ t. cond {A = ℕ} t 1 0) (eq-eqb n c e)
+module _ {R : Type 0} (cs : List (Option R)) where
+  here_only : (c n : ℕ) (o : Option R) → n ≡ c → weight (λ (p : ℕ × R). eqb p.0 c) n o ≡ weight each c o
+  here_only c n None e = refl
+  here_only c n (Some r) e = ap (λ t. cond {A = ℕ} t 1 0) (eq-eqb n c e)
 
-  not_here : (c n : ℕ) (o : Cell R) → (n ≡ c → ⊥) → weight (λ (p : ℕ × R). eqb p.0 c) n o ≡ 0
-  not_here c n Empty e = refl
-  not_here c n (Holds r) e = ap (λ t. cond {A = ℕ} t 1 0) (ne_eqb n c e)
+  not_here : (c n : ℕ) (o : Option R) → (n ≡ c → ⊥) → weight (λ (p : ℕ × R). eqb p.0 c) n o ≡ 0
+  not_here c n None e = refl
+  not_here c n (Some r) e = ap (λ t. cond {A = ℕ} t 1 0) (ne_eqb n c e)
 
   none_at : (c n : ℕ) → n ≤ c → count (λ (p : ℕ × R). eqb p.0 c) (located cs n) ≡ 0
   none_at c zero h = refl
   none_at c (suc n) h =
       let a = count_located cs (λ (p : ℕ × R). eqb p.0 c) n in
-      let b = not_here c n (get_or cs n Empty) (λ e. omega arith) in
+      let b = not_here c n (get_or cs n None) (λ e. omega arith) in
       let r = none_at c n (omega arith) in
       omega arith
 
-  one_at : (c n : ℕ) → c < n → count (λ (p : ℕ × R). eqb p.0 c) (located cs n) ≡ weight each c (get_or cs c Empty)
+  one_at : (c n : ℕ) → c < n → count (λ (p : ℕ × R). eqb p.0 c) (located cs n) ≡ weight each c (get_or cs c None)
   one_at c zero h = absurd (omega arith)
   one_at c (suc n) h =
       let a = count_located cs (λ (p : ℕ × R). eqb p.0 c) n in
       elim (cases_eq n c) [
         | inl e ↦
-            let b = here_only c n (get_or cs n Empty) e in
-            let x = ap (λ y. weight {R = R} each c (get_or cs y Empty)) e in
+            let b = here_only c n (get_or cs n None) e in
+            let x = ap (λ y. weight {R = R} each c (get_or cs y None)) e in
             let r = none_at c n (omega arith) in
             omega arith
         | inr ne ↦
-            let b = not_here c n (get_or cs n Empty) ne in
+            let b = not_here c n (get_or cs n None) ne in
             let r = one_at c n (omega arith) in
             omega arith
       ]

@@ -1,11 +1,10 @@
 -- Records that lie in another bucket after cells changed hands: those of the path, one less than its cells.
+use Rattle.std.specs.Prelude.{Some, None, Option}
 use Rattle.std.proofs.Common.{◌≡◌, ℕ, ◌*◌, ◌/◌, ◌<◌, Bool, true, false, not, eqb, List, [], ◌∷◌, length, get_or, sym, refl, ap, ◌∙◌, subst, inl, inr, arith}
 use Rattle.std.proofs.lemmas.List.{get_or-set_other}
 use Rattle.std.proofs.lemmas.Bool.{eq-eqb, ne_eqb}
 use Rattle.assignment.specs.Assign.{In, count}
 use Rattle.assignment.proofs.Places.{count_map}
-use Rattle.stores.specs.declared.cells.Cell.{Cell}
-use Rattle.stores.specs.declared.cells.Cell.TheVariants.{Empty, Holds}
 use Rattle.rules.specs.Placements.{Placement, Lawful, Apart, Path, handed, word}
 use Rattle.rules.specs.Stored.{Lying, placement_in}
 use Rattle.rules.specs.Theorems.{ARouteCountsMoves}
@@ -30,33 +29,33 @@ module _ {R : Type 0} (f : Placement R) (law : Lawful f) where
       omega arith
 
   -- a record on the path goes to another bucket
-  abbrev Goes : ℕ → List ℕ → Cell R → ℕ → R → Type 0
+  abbrev Goes : ℕ → List ℕ → Option R → ℕ → R → Type 0
   Goes c path v y r =
-      (z : ℕ) × In z (c ∷ path) × (get_or (handed (c ∷ path) v f.held) z Empty ≡ Holds r) × (z / f.cells ≡ y / f.cells → ⊥)
+      (z : ℕ) × In z (c ∷ path) × (get_or (handed (c ∷ path) v f.held) z None ≡ Some r) × (z / f.cells ≡ y / f.cells → ⊥)
 
   goes :
-      (c : ℕ) (path : List ℕ) (v : Cell R) → Path f (c ∷ path) → Apart f.cells (c ∷ path) →
-      (y : ℕ) (r : R) → In y (c ∷ path) → get_or f.held y Empty ≡ Holds r → Goes c path v y r
+      (c : ℕ) (path : List ℕ) (v : Option R) → Path f (c ∷ path) → Apart f.cells (c ∷ path) →
+      (y : ℕ) (r : R) → In y (c ∷ path) → get_or f.held y None ≡ Some r → Goes c path v y r
   goes c [] v low apart y r i h =
       elim i [
-        | inl e ↦ absurd (not_both (get_or f.held y Empty) r (ap (λ z. get_or f.held z Empty) e ∙ low.empty) h)
+        | inl e ↦ absurd (not_both (get_or f.held y None) r (ap (λ z. get_or f.held z None) e ∙ low.empty) h)
         | inr j ↦ absurd j
       ]
   goes c (d ∷ path) v (q, other, rest) apart y r (inl e) h =
-      let o = get_or f.held c Empty in
+      let o = get_or f.held c None in
       let dl = own_used f law (word f q.0) d q.2 in (
         d,
         inr (inl refl),
-        get_or-set_other (handed (d ∷ path) o f.held) c d v Empty (λ z. other (ap (λ x. x / f.cells) z)) ∙ at_first f law d path o dl
-            ∙ ap (λ z. get_or f.held z Empty) (sym e) ∙ h,
+        get_or-set_other (handed (d ∷ path) o f.held) c d v None (λ z. other (ap (λ x. x / f.cells) z)) ∙ at_first f law d path o dl
+            ∙ ap (λ z. get_or f.held z None) (sym e) ∙ h,
         λ z. other (z ∙ ap (λ x. x / f.cells) e),
       )
   goes c (d ∷ path) v (q, other, rest) apart y r (inr i) h =
-      let o = get_or f.held c Empty in
+      let o = get_or f.held c None in
       let w = goes d path o rest apart.1 y r i h in (
         w.0,
         inr w.1,
-        get_or-set_other (handed (d ∷ path) o f.held) c w.0 v Empty
+        get_or-set_other (handed (d ∷ path) o f.held) c w.0 v None
             (λ z. apart_from f.cells c (d ∷ path) apart w.0 w.1 (ap (λ x. x / f.cells) z))
             ∙ w.2,
         w.3,
@@ -80,12 +79,12 @@ module _ {R : Type 0} (f : Placement R) (law : Lawful f) where
       omega arith
 
   -- a gives the key of each record in these cells its bucket
-  abbrev By : {K : Type 0} → (R → K) → List (Cell R) → (K → ℕ) → Type 0
+  abbrev By : {K : Type 0} → (R → K) → List (Option R) → (K → ℕ) → Type 0
   By key cs a = (x : ℕ) (q : R) → Lodges f cs x q → a (key q) ≡ x / f.cells
 
   -- Where a says how keys lay and b how they lie, as many keys differ as the path has cells after the first.
   count_moves :
-      {K : Type 0} (key : R → K) (c : ℕ) (path : List ℕ) (v : Cell R) →
+      {K : Type 0} (key : R → K) (c : ℕ) (path : List ℕ) (v : Option R) →
       c < f.size * f.cells → Path f (c ∷ path) → Apart f.cells (c ∷ path) →
       (a b : K → ℕ) → By key f.held a → By key (handed (c ∷ path) v f.held) b →
       count (λ (p : ℕ × R). not (eqb (a (key p.1)) (b (key p.1)))) (lodgers f) ≡ length path
@@ -110,7 +109,7 @@ a_route_counts_moves {R} {K} key words hash s r first rest u sound enters a b la
     let lie' : Lying key (entered s r first rest) b =
     subst (λ t. Lying key t b) (same_state enters.size enters.count enters.cells) lie in
     count_map (λ k. not (eqb (a k) (b k))) (λ (p : ℕ × R). key p.1) (lodgers f)
-    ∙ count_moves f law key first rest (Holds r) (own_used f law (word f r) first enters.route.own)
+    ∙ count_moves f law key first rest (Some r) (own_used f law (word f r) first enters.route.own)
     enters.route.path
     enters.route.apart
     a b

@@ -1,10 +1,9 @@
 -- A sound table after a record took a route into it.
+use Rattle.std.specs.Prelude.{Some, None, Option}
 use Rattle.std.proofs.Common.{◌≡◌, ℕ, ◌+◌, ◌*◌, ◌/◌, ◌<◌, true, ◌≢◌, List, ◌∷◌, get_or, take, sym, ap, ◌∙◌, subst, inl, inr, arith}
 use Rattle.std.proofs.lemmas.Bool.{cases_eq}
 use Rattle.records.specs.declared.numbers.Words.{Words}
 use Rattle.assignment.specs.Assign.{count}
-use Rattle.stores.specs.declared.cells.Cell.{Cell}
-use Rattle.stores.specs.declared.cells.Cell.TheVariants.{Empty, Holds}
 use Rattle.rules.specs.Placements.{Placement, Lawful, Own, Route, handed, word}
 use Rattle.rules.specs.Stored.{StoredKey, placement_in}
 use Rattle.rules.specs.Tables.{State, Sound, holding}
@@ -17,13 +16,13 @@ use Rattle.rules.proofs.Sounds.{same_held, same_state}
 use Rattle.rules.proofs.Tallies.{count_holding}
 
 -- no key stands twice in these cells
-abbrev Once : {R K : Type 0} → (R → K) → Placement R → List (Cell R) → Type 0
+abbrev Once : {R K : Type 0} → (R → K) → Placement R → List (Option R) → Type 0
 Once {R} key f cs = (b c : ℕ) (p q : R) → Lodges f cs b p → Lodges f cs c q → key p ≡ key q → b ≡ c
 
 module _ {R K : Type 0} (key : R → K) (f : Placement R) (law : Lawful f) (home : AtHome f) (once : Once key f f.held) (r : R)
     (fresh : (c : ℕ) (q : R) → Lodges f f.held c q → key q ≡ key r → ⊥) (c : ℕ) (path : List ℕ) (route : Route f (word f r) c path) where
-  abbrev after : List (Cell R)
-  after = handed (c ∷ path) (Holds r) f.held
+  abbrev after : List (Option R)
+  after = handed (c ∷ path) (Some r) f.held
 
   below : c < f.size * f.cells
   below = own_used f law (word f r) c route.own
@@ -31,10 +30,10 @@ module _ {R K : Type 0} (key : R → K) (f : Placement R) (law : Lawful f) (home
   -- what lies in the first cell is the new record
   is_new : (x : ℕ) (q : R) → x ≡ c → Lodges f after x q → r ≡ q
   is_new x q e h =
-      same_held (get_or after c Empty) r q (at_first f law c path (Holds r) below) (ap (λ z. get_or after z Empty) (sym e) ∙ h.1)
+      same_held (get_or after c None) r q (at_first f law c path (Some r) below) (ap (λ z. get_or after z None) (sym e) ∙ h.1)
 
   old : (x : ℕ) (q : R) → x ≢ c → Lodges f after x q → Came f c path x q
-  old = came f law home c path (Holds r) below route.path
+  old = came f law home c path (Some r) below route.path
 
   new_home : (x : ℕ) (q : R) → Lodges f after x q → Own f (word f q) (x / f.cells)
   new_home x q h =
@@ -67,12 +66,12 @@ module _ {R K : Type 0} (key : R → K) (f : Placement R) (law : Lawful f) (home
   new_count =
       let a = count_holding after (f.size * f.cells) in
       let b = count_holding f.held (f.size * f.cells) in
-      let h = count_handed f law (λ _. true) c path (Holds r) below route.path route.apart in
+      let h = count_handed f law (λ _. true) c path (Some r) below route.path route.apart in
       omega arith
 
 -- the table with the new record
 abbrev pub entered : {R : Type 0} → State R → R → ℕ → List ℕ → State R
-entered s r first rest = record { size = s.size; count = s.count + 1; cells = handed (first ∷ rest) (Holds r) s.cells }
+entered s r first rest = record { size = s.size; count = s.count + 1; cells = handed (first ∷ rest) (Some r) s.cells }
 
 module _ {R K : Type 0} (key : R → K) (words : K → Words) (hash : Words → ℕ) (s : State R) (sound : Sound key words hash s) where
   abbrev place : Placement R
@@ -93,7 +92,7 @@ module _ {R K : Type 0} (key : R → K) (words : K → Words) (hash : Words → 
 
     pub entered_sound : Sound key words hash (entered s r first rest)
     entered_sound = record {
-      reach = let a = sound.reach in let b = handed_length (first ∷ rest) (Holds r) s.cells in omega arith;
+      reach = let a = sound.reach in let b = handed_length (first ∷ rest) (Some r) s.cells in omega arith;
       home =
           λ c q h.
           own_in place (word place q) (c / s.size.settings.cells)

@@ -1,27 +1,26 @@
 -- Cells that change hands along a path: which they are, what stays, and how the count of records grows.
+use Rattle.std.specs.Prelude.{Some, None, Option}
 use Rattle.std.proofs.Common.{◌≡◌, ℕ, suc, ◌+◌, ◌*◌, ◌/◌, ◌%◌, ◌<◌, Bool, List, [], ◌∷◌, length, get_or, sym, refl, ap, ◌∙◌, subst, inl, inr, arith}
 use Rattle.std.proofs.lemmas.Nat.{div-add-mod', mod_below, mul-add-lt}
 use Rattle.std.proofs.lemmas.List.{get_or-set_other, length-set}
 use Rattle.assignment.specs.Assign.{In, count}
-use Rattle.stores.specs.declared.cells.Cell.{Cell}
-use Rattle.stores.specs.declared.cells.Cell.TheVariants.{Empty, Holds}
 use Rattle.rules.specs.Placements.{Placement, Lawful, Apart, Own, Path, handed, word}
 use Rattle.rules.specs.Stored.{located}
 use Rattle.rules.proofs.Locations.{weight}
 use Rattle.rules.proofs.Tallies.{count_set, of_record}
 
-pub handed_length : {R : Type 0} (path : List ℕ) (v : Cell R) (cs : List (Cell R)) → length (handed path v cs) ≡ length cs
+pub handed_length : {R : Type 0} (path : List ℕ) (v : Option R) (cs : List (Option R)) → length (handed path v cs) ≡ length cs
 handed_length [] v cs = refl
-handed_length (c ∷ path) v cs = length-set (handed path (get_or cs c Empty) cs) c v ∙ handed_length path (get_or cs c Empty) cs
+handed_length (c ∷ path) v cs = length-set (handed path (get_or cs c None) cs) c v ∙ handed_length path (get_or cs c None) cs
 
 -- a cell that is not on the path stays
 pub handed_off :
-    {R : Type 0} (path : List ℕ) (v : Cell R) (cs : List (Cell R)) (x : ℕ) → (In x path → ⊥) →
-    get_or (handed path v cs) x Empty ≡ get_or cs x Empty
+    {R : Type 0} (path : List ℕ) (v : Option R) (cs : List (Option R)) (x : ℕ) → (In x path → ⊥) →
+    get_or (handed path v cs) x None ≡ get_or cs x None
 handed_off [] v cs x out = refl
 handed_off (c ∷ path) v cs x out =
-    get_or-set_other (handed path (get_or cs c Empty) cs) c x v Empty (λ e. out (inl e))
-    ∙ handed_off path (get_or cs c Empty) cs x (λ i. out (inr i))
+    get_or-set_other (handed path (get_or cs c None) cs) c x v None (λ e. out (inl e))
+    ∙ handed_off path (get_or cs c None) cs x (λ i. out (inr i))
 
 -- a member of a list stands at some place of it
 pub in_place : (x : ℕ) (xs : List ℕ) → In x xs → (n : ℕ) × (n < length xs) × (get_or xs n 0 ≡ x)
@@ -57,13 +56,13 @@ module _ {R : Type 0} (f : Placement R) (law : Lawful f) where
   pub stored_at : (c : ℕ) → c < f.size * f.cells → c < length f.held
   stored_at c l = let r = law.reach in omega arith
 
-  anywhere : (p : R → Bool) (c : ℕ) (o : Cell R) → weight (of_record p) c o ≡ weight (of_record p) 0 o
-  anywhere p c Empty = refl
-  anywhere p c (Holds r) = refl
+  anywhere : (p : R → Bool) (c : ℕ) (o : Option R) → weight (of_record p) c o ≡ weight (of_record p) 0 o
+  anywhere p c None = refl
+  anywhere p c (Some r) = refl
 
   -- The count of records that pass a test, which does not ask for their cells, grows by the new content.
   pub count_handed :
-      (p : R → Bool) (c : ℕ) (path : List ℕ) (v : Cell R) → c < f.size * f.cells → Path f (c ∷ path) → Apart f.cells (c ∷ path) →
+      (p : R → Bool) (c : ℕ) (path : List ℕ) (v : Option R) → c < f.size * f.cells → Path f (c ∷ path) → Apart f.cells (c ∷ path) →
       count (of_record p) (located (handed (c ∷ path) v f.held) (f.size * f.cells))
       ≡ count (of_record p) (located f.held (f.size * f.cells)) + weight (of_record p) 0 v
   count_handed p c [] v l low apart =
@@ -72,7 +71,7 @@ module _ {R : Type 0} (f : Placement R) (law : Lawful f) where
       let w = anywhere p c v in
       omega arith
   count_handed p c (d ∷ path) v l (q, other, rest) apart =
-      let o = get_or f.held c Empty in
+      let o = get_or f.held c None in
       let after = handed (d ∷ path) o f.held in
       let k = handed_length (d ∷ path) o f.held in
       let s = stored_at c l in

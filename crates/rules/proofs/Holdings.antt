@@ -1,4 +1,5 @@
 -- The keys of a sound table are held as they lie.
+use Rattle.std.specs.Prelude.{Some, None, Option}
 use Rattle.std.proofs.Common.{◌≡◌, ℕ, zero, suc, ◌*◌, ◌/◌, ◌<◌, ◌≤◌, Bool, true, ◌&&◌, eqb, List, map, get_or, Decides, sym, refl, ap, subst, arith}
 use mathlib.Core.List.{map-map}
 use Rattle.std.proofs.lemmas.Bool.{and_from, and_parts, eq-eqb, eqb-true}
@@ -7,8 +8,6 @@ use Rattle.addresses.specs.Sized.{buckets_in}
 use Rattle.assignment.specs.Assign.{Distinct, In, count}
 use Rattle.assignment.proofs.Counts.{count_le}
 use Rattle.assignment.proofs.Places.{count_map, from_map, in_map, lookup}
-use Rattle.stores.specs.declared.cells.Cell.{Cell}
-use Rattle.stores.specs.declared.cells.Cell.TheVariants.{Empty, Holds}
 use Rattle.rules.specs.Stored.{joined, keys_below, located}
 use Rattle.rules.specs.Tables.{own_buckets, used_in}
 use Rattle.rules.specs.Theorems.{ASoundTableIsHeld, ToldApart}
@@ -34,24 +33,24 @@ told_by words apart k l = (
       (eq-eqb (words k).second (words l).second (ap (λ y. (words y).second) e)),
 )
 
-module _ {R K : Type 0} (key : R → K) (cs : List (Cell R)) where
+module _ {R K : Type 0} (key : R → K) (cs : List (Option R)) where
   abbrev key_of : ℕ × R → K
   key_of p = key p.1
 
   distinct_joined :
-      (n : ℕ) (o : Cell R) (rest : List (ℕ × R)) → ((r : R) → o ≡ Holds r → In (key r) (map key_of rest) → ⊥) →
+      (n : ℕ) (o : Option R) (rest : List (ℕ × R)) → ((r : R) → o ≡ Some r → In (key r) (map key_of rest) → ⊥) →
       Distinct (map key_of rest) → Distinct (map key_of (joined n o rest))
-  distinct_joined n Empty rest out d = d
-  distinct_joined n (Holds r) rest out d = (out r refl, d)
+  distinct_joined n None rest out d = d
+  distinct_joined n (Some r) rest out d = (out r refl, d)
 
   -- no key twice below n, where none stands in two cells
   distinct_keys :
       (n : ℕ) →
-      ((b c : ℕ) (p q : R) → b < n → c < n → get_or cs b Empty ≡ Holds p → get_or cs c Empty ≡ Holds q → key p ≡ key q → b ≡ c) →
+      ((b c : ℕ) (p q : R) → b < n → c < n → get_or cs b None ≡ Some p → get_or cs c None ≡ Some q → key p ≡ key q → b ≡ c) →
       Distinct (keys_below key cs n)
   distinct_keys zero once = tt
   distinct_keys (suc n) once =
-      distinct_joined n (get_or cs n Empty) (located cs n)
+      distinct_joined n (get_or cs n None) (located cs n)
       (λ r h i.
       from_map (λ k. key r ≡ k → ⊥) key_of (located cs n)
       (λ p j e.
@@ -62,7 +61,7 @@ module _ {R K : Type 0} (key : R → K) (cs : List (Cell R)) where
       (key r) i refl)
       (distinct_keys n (λ b c p q l m h k e. once b c p q (omega arith) (omega arith) h k e))
 
-module _ {R K : Type 0} (key : R → K) (words : K → Words) (apart : ToldApart words) (cs : List (Cell R)) (B n : ℕ)
+module _ {R K : Type 0} (key : R → K) (words : K → Words) (apart : ToldApart words) (cs : List (Option R)) (B n : ℕ)
     (distinct : Distinct (keys_below key cs n)) where
   abbrev pair : ℕ × R → K × ℕ
   pair p = (key p.1, p.0 / B)
@@ -76,7 +75,7 @@ module _ {R K : Type 0} (key : R → K) (words : K → Words) (apart : ToldApart
 
 -- no bucket over its cells
 lying_fits :
-    {R K : Type 0} (key : R → K) (cs : List (Cell R)) (B U : ℕ) → 1 ≤ B →
+    {R K : Type 0} (key : R → K) (cs : List (Option R)) (B U : ℕ) → 1 ≤ B →
     (a : K → ℕ) → ((p : ℕ × R) → In p (located cs (U * B)) → a (key p.1) ≡ p.0 / B) →
     (b : ℕ) → count (λ k. eqb (a k) b) (keys_below key cs (U * B)) ≤ B
 lying_fits {R} key cs B U some a lies b =

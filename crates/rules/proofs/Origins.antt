@@ -1,10 +1,9 @@
 -- Where the records came from that lie in cells after some changed hands.
+use Rattle.std.specs.Prelude.{Some, None, Option}
 use Rattle.std.proofs.Common.{◌≡◌, ℕ, ◌*◌, ◌/◌, ◌<◌, ◌≢◌, ◌⊎◌, List, [], ◌∷◌, get_or, sym, refl, ap, ◌∙◌, subst, inl, inr, ⊎_elim, arith}
 use Rattle.std.proofs.lemmas.List.{get_or-set_same, get_or-set_other}
 use Rattle.std.proofs.lemmas.Bool.{cases_eq}
 use Rattle.assignment.specs.Assign.{In}
-use Rattle.stores.specs.declared.cells.Cell.{Cell}
-use Rattle.stores.specs.declared.cells.Cell.TheVariants.{Empty, Holds}
 use Rattle.rules.specs.Placements.{Placement, Lawful, Apart, Own, Path, handed, word}
 use Rattle.rules.proofs.Handings.{apart_from, handed_length, own_used, stored_at}
 use Rattle.rules.proofs.Sounds.{same_held}
@@ -32,8 +31,8 @@ once_from B c (d ∷ path) apart x x' y nx nx' (inr (n, p)) (inl (a', b')) =
 once_from B c (d ∷ path) apart x x' y nx nx' (inr (n, p)) (inr (n', q)) = once_from B d path apart.1 x x' y n n' p q
 
 -- a used cell, of these cells, holds a record
-abbrev pub Lodges : {R : Type 0} → Placement R → List (Cell R) → ℕ → R → Type 0
-Lodges f cs c r = (c < f.size * f.cells) × (get_or cs c Empty ≡ Holds r)
+abbrev pub Lodges : {R : Type 0} → Placement R → List (Option R) → ℕ → R → Type 0
+Lodges f cs c r = (c < f.size * f.cells) × (get_or cs c None ≡ Some r)
 
 -- every record lies in an own bucket
 abbrev pub AtHome : {R : Type 0} → Placement R → Type 0
@@ -48,27 +47,27 @@ pub record Came {R : Type 0} (f : Placement R) (c : ℕ) (path : List ℕ) (x : 
 
 module _ {R : Type 0} (f : Placement R) (law : Lawful f) where
   -- what was given to the first cell lies there
-  pub at_first : (c : ℕ) (path : List ℕ) (v : Cell R) → c < f.size * f.cells → get_or (handed (c ∷ path) v f.held) c Empty ≡ v
+  pub at_first : (c : ℕ) (path : List ℕ) (v : Option R) → c < f.size * f.cells → get_or (handed (c ∷ path) v f.held) c None ≡ v
   at_first c path v l =
-      let o = get_or f.held c Empty in
+      let o = get_or f.held c None in
       let k = handed_length path o f.held in
       let s = stored_at f law c l in
-      get_or-set_same (handed path o f.held) c v Empty (omega arith)
+      get_or-set_same (handed path o f.held) c v None (omega arith)
 
   -- each record but the one in the first cell stayed, or it came to an own bucket
   pub came :
-      AtHome f → (c : ℕ) (path : List ℕ) (v : Cell R) → c < f.size * f.cells → Path f (c ∷ path) → (x : ℕ) (r : R) → x ≢ c →
+      AtHome f → (c : ℕ) (path : List ℕ) (v : Option R) → c < f.size * f.cells → Path f (c ∷ path) → (x : ℕ) (r : R) → x ≢ c →
       Lodges f (handed (c ∷ path) v f.held) x r → Came f c path x r
   came home c [] v l p x r ne (xl, h) =
-      let g = sym (get_or-set_other f.held c x v Empty ne) ∙ h in
+      let g = sym (get_or-set_other f.held c x v None ne) ∙ h in
       record { cell = x; from = refl; lay = (xl, g); own = home x r (xl, g) }
   came home c (d ∷ path) v l (q, other, p) x r ne (xl, h) =
-      let o = get_or f.held c Empty in
+      let o = get_or f.held c None in
       let dl : d < f.size * f.cells = own_used f law (word f q.0) d q.2 in
-      let g = sym (get_or-set_other (handed (d ∷ path) o f.held) c x v Empty ne) ∙ h in
+      let g = sym (get_or-set_other (handed (d ∷ path) o f.held) c x v None ne) ∙ h in
       elim (cases_eq x d) [
         | inl e ↦
-            let k = sym (at_first d path o dl) ∙ ap (λ z. get_or (handed (d ∷ path) o f.held) z Empty) (sym e) ∙ g in
+            let k = sym (at_first d path o dl) ∙ ap (λ z. get_or (handed (d ∷ path) o f.held) z None) (sym e) ∙ g in
             record {
               cell = c;
               from = inl (e, refl);

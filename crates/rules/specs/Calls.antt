@@ -7,8 +7,6 @@ use Rattle.addresses.specs.declared.sizes.Size.{Size}
 use Rattle.addresses.specs.Ranges.{InRange}
 use Rattle.addresses.specs.Sized.{buckets_in}
 use Rattle.assignment.specs.Assign.{In, moves}
-use Rattle.stores.specs.declared.cells.Cell.{Cell}
-use Rattle.stores.specs.declared.cells.Cell.TheVariants.{Empty, Holds}
 use Rattle.rules.specs.Placements.{Direct, Displaced, handed}
 use Rattle.rules.specs.Rows.{Row, First}
 use Rattle.rules.specs.Stored.{AssignsAt, HeldAt, Lying, Stored, StoredKey, placement_in, stored_keys}
@@ -34,18 +32,18 @@ pub record Space {X : Type 0} (answer : Result X Decline) (before after : List �
 -- MAKE
 
 -- a setting outside its range, then too few cells for the starting size
-abbrev pub make_rows : {R : Type 0} → ℕ → ℕ → ℕ → ℕ → ℕ → List (Cell R) → List Row
+abbrev pub make_rows : {R : Type 0} → ℕ → ℕ → ℕ → ℕ → ℕ → List (Option R) → List Row
 make_rows t b h x d cells = (1, (InRange t b h x d → ⊥)) ∷ (2, length cells < 2 ^ t * 2 ^ x * b) ∷ []
 
 -- the cells from one number to before another are emptied, and no others change
-pub record Emptied {R : Type 0} (from to : ℕ) (cells after : List (Cell R)) : Type 0 where
+pub record Emptied {R : Type 0} (from to : ℕ) (cells after : List (Option R)) : Type 0 where
   pub reach : length after ≡ length cells
-  pub inside : (c : ℕ) → from ≤ c → c < to → slice_index_or after c Empty ≡ Empty
-  pub below : (c : ℕ) → c < from → slice_index_or after c Empty ≡ slice_index_or cells c Empty
-  pub past : (c : ℕ) → to ≤ c → slice_index_or after c Empty ≡ slice_index_or cells c Empty
+  pub inside : (c : ℕ) → from ≤ c → c < to → slice_index_or after c None ≡ None
+  pub below : (c : ℕ) → c < from → slice_index_or after c None ≡ slice_index_or cells c None
+  pub past : (c : ℕ) → to ≤ c → slice_index_or after c None ≡ slice_index_or cells c None
 
 -- the starting size with these settings, and its used cells emptied
-pub record Made {R : Type 0} (t b h x d : ℕ) (cells after : List (Cell R)) (Wrote : (ℕ → Type 0) → Type 0) (z : Size) : Type 0 where
+pub record Made {R : Type 0} (t b h x d : ℕ) (cells after : List (Option R)) (Wrote : (ℕ → Type 0) → Type 0) (z : Size) : Type 0 where
   pub subtables : z.settings.t ≡ t
   pub bucket : z.settings.cells ≡ b
   pub choices : z.settings.choices ≡ h
@@ -73,7 +71,7 @@ module _ {R K : Type 0} (key : R → K) where
     pub same : key r ≡ k
     pub size : u.size ≡ s.size
     pub count : u.count + 1 ≡ s.count
-    pub cells : u.cells ≡ slice_set s.cells cell Empty
+    pub cells : u.cells ≡ slice_set s.cells cell None
     pub wrote : Wrote (λ c. c ≡ cell)
 
   -- what erase answers and leaves
@@ -97,7 +95,7 @@ module _ {R K : Type 0} (key : R → K) where
       pub way : Direct (placement_in key words hash s) (hash (words (key r))) first rest ⊎ Displaced (placement_in key words hash s) (hash (words (key r))) first rest
       pub size : u.size ≡ s.size
       pub count : u.count ≡ s.count + 1
-      pub cells : u.cells ≡ handed (first ∷ rest) (Holds r) s.cells
+      pub cells : u.cells ≡ handed (first ∷ rest) (Some r) s.cells
       pub wrote : Wrote (λ c. In c (first ∷ rest))
       pub long : length rest ≡ m
       pub assigned : (b : K → ℕ) × Lying key u b × AssignsAt words hash s.size (key r ∷ stored_keys key s) b

@@ -1,12 +1,10 @@
 -- Records in buckets: where the choices of a key lead, which cells are empty, and the way of a record into its bucket.
-use Rattle.std.specs.Prelude.{◌≡◌, ℕ, zero, suc, ◌+◌, ◌*◌, ◌/◌, ◌<◌, ◌≤◌, List, [], ◌∷◌, map, length, get_or, ◌≢◌, slice_index, slice_index_or, slice_set}
+use Rattle.std.specs.Prelude.{◌≡◌, ℕ, zero, suc, ◌+◌, ◌*◌, ◌/◌, ◌<◌, ◌≤◌, List, [], ◌∷◌, map, length, get_or, ◌≢◌, slice_index, slice_index_or, slice_set, Some, None, Option}
 use Rattle.std.specs.List.{range_with_len}
 use Rattle.records.specs.declared.numbers.Words.{Words}
 use Rattle.addresses.specs.declared.sizes.Size.{Size}
 use Rattle.addresses.specs.Positions.{choice_of}
 use Rattle.addresses.specs.Sized.{buckets_in, place_in}
-use Rattle.stores.specs.declared.cells.Cell.{Cell}
-use Rattle.stores.specs.declared.cells.Cell.TheVariants.{Empty, Holds}
 
 -- What placing a record has to know of a table: how many buckets there are, the cells of each, the choices of a key, what lies in
 -- the cells, a record's key words, their hash word, and where each choice of a hash word lies.
@@ -14,7 +12,7 @@ pub record Placement (R : Type 0) : Type 0 where
   pub size : ℕ
   pub cells : ℕ
   pub choices : ℕ
-  pub held : List (Cell R)
+  pub held : List (Option R)
   pub words : R → Words
   pub hash : Words → ℕ
   pub lies : ℕ → ℕ → ℕ
@@ -30,7 +28,7 @@ pub record Lawful {R : Type 0} (f : Placement R) : Type 0 where
   pub reach : f.size * f.cells ≤ length f.held
 
 -- cells in the buckets of a size, by a record's key words and a family
-abbrev pub placement_of : {R : Type 0} → (R → Words) → (Words → ℕ) → Size → List (Cell R) → Placement R
+abbrev pub placement_of : {R : Type 0} → (R → Words) → (Words → ℕ) → Size → List (Option R) → Placement R
 placement_of words hash z cs = record {
   size = buckets_in z;
   cells = z.settings.cells;
@@ -42,14 +40,14 @@ placement_of words hash z cs = record {
 }
 
 -- 1 for an empty cell
-abbrev pub blank : {R : Type 0} → Cell R → ℕ
-blank Empty = 1
-blank (Holds r) = 0
+abbrev pub blank : {R : Type 0} → Option R → ℕ
+blank None = 1
+blank (Some r) = 0
 
 -- how many of the n cells from b on are empty
-abbrev pub vacant_in : {R : Type 0} → List (Cell R) → ℕ → ℕ → ℕ
+abbrev pub vacant_in : {R : Type 0} → List (Option R) → ℕ → ℕ → ℕ
 vacant_in cs b zero = 0
-vacant_in cs b (suc n) = blank (slice_index_or cs (b + n) Empty) + vacant_in cs b n
+vacant_in cs b (suc n) = blank (slice_index_or cs (b + n) None) + vacant_in cs b n
 
 -- no two of the cells lie in one bucket of B cells
 abbrev pub Apart : ℕ → List ℕ → Type 0
@@ -57,9 +55,9 @@ Apart B [] = Unit {0}
 Apart B (c ∷ cs) = ((n : ℕ) → n < length cs → slice_index cs n / B ≢ c / B) × Apart B cs
 
 -- the cells along a path change hands: v goes to the first, what was there to the next, and so on
-abbrev pub handed : {R : Type 0} → List ℕ → Cell R → List (Cell R) → List (Cell R)
+abbrev pub handed : {R : Type 0} → List ℕ → Option R → List (Option R) → List (Option R)
 handed [] v cs = cs
-handed (c ∷ path) v cs = slice_set (handed path (slice_index_or cs c Empty) cs) c v
+handed (c ∷ path) v cs = slice_set (handed path (slice_index_or cs c None) cs) c v
 
 module _ {R : Type 0} (f : Placement R) where
   -- the hash word of a record's key
@@ -81,8 +79,8 @@ module _ {R : Type 0} (f : Placement R) where
   -- c is the lowest empty cell of bucket p
   pub record LowestEmpty (p c : ℕ) : Type 0 where
     pub within : c / f.cells ≡ p
-    pub empty : get_or f.held c Empty ≡ Empty
-    pub lowest : (b : ℕ) → b < c → b / f.cells ≡ p → slice_index_or f.held b Empty ≢ Empty
+    pub empty : get_or f.held c None ≡ None
+    pub lowest : (b : ℕ) → b < c → b / f.cells ≡ p → slice_index_or f.held b None ≢ None
 
   -- A path of cells: the record in each goes to the next, which lies in another of its own buckets; the last cell is the lowest
   -- empty one of its bucket.
@@ -90,7 +88,7 @@ module _ {R : Type 0} (f : Placement R) where
   Path [] = ⊥
   Path (c ∷ []) = LowestEmpty (c / f.cells) c
   Path (c ∷ (d ∷ path)) =
-      ((r : R) × (slice_index_or f.held c Empty ≡ Holds r) × Own (word r) (d / f.cells))
+      ((r : R) × (slice_index_or f.held c None ≡ Some r) × Own (word r) (d / f.cells))
       × (d / f.cells ≢ c / f.cells)
       × Path (d ∷ path)
 

@@ -1,25 +1,23 @@
 -- The records, pairs and keys of a table, and which buckets its keys lie in.
-use Rattle.std.specs.Prelude.{◌≡◌, ℕ, zero, suc, ◌/◌, List, [], ◌∷◌, map, slice_index_or}
+use Rattle.std.specs.Prelude.{◌≡◌, ℕ, zero, suc, ◌/◌, List, [], ◌∷◌, map, slice_index_or, Some, None, Option}
 use Rattle.records.specs.declared.numbers.Words.{Words}
 use Rattle.addresses.specs.declared.sizes.Size.{Size}
 use Rattle.assignment.specs.Assign.{Assigns, Held}
-use Rattle.stores.specs.declared.cells.Cell.{Cell}
-use Rattle.stores.specs.declared.cells.Cell.TheVariants.{Empty, Holds}
 use Rattle.rules.specs.Placements.{Placement, placement_of}
 use Rattle.rules.specs.Tables.{State, HoldsAt, own_buckets, used_in}
 
 -- a cell's number with its record, before others, if it holds one
-abbrev pub joined : {R : Type 0} → ℕ → Cell R → List (ℕ × R) → List (ℕ × R)
-joined n Empty rest = rest
-joined n (Holds r) rest = (n, r) ∷ rest
+abbrev pub joined : {R : Type 0} → ℕ → Option R → List (ℕ × R) → List (ℕ × R)
+joined n None rest = rest
+joined n (Some r) rest = (n, r) ∷ rest
 
 -- the records in the cells below n, each with the number of its cell
-abbrev pub located : {R : Type 0} → List (Cell R) → ℕ → List (ℕ × R)
+abbrev pub located : {R : Type 0} → List (Option R) → ℕ → List (ℕ × R)
 located cs zero = []
-located cs (suc n) = joined n (slice_index_or cs n Empty) (located cs n)
+located cs (suc n) = joined n (slice_index_or cs n None) (located cs n)
 
 -- the keys of the records in the cells below n
-abbrev pub keys_below : {R K : Type 0} → (R → K) → List (Cell R) → ℕ → List K
+abbrev pub keys_below : {R K : Type 0} → (R → K) → List (Option R) → ℕ → List K
 keys_below {R} key cs n = map (λ (p : ℕ × R). key p.1) (located cs n)
 
 -- a record is stored: it lies in a used cell

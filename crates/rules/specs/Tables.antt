@@ -1,19 +1,17 @@
 -- The state of a table, a key's own buckets, and when a table is sound.
-use Rattle.std.specs.Prelude.{◌≡◌, ℕ, ◌*◌, ◌/◌, ◌<◌, ◌≤◌, Bool, true, false, List, map, length, take, slice_index_or}
+use Rattle.std.specs.Prelude.{◌≡◌, ℕ, ◌*◌, ◌/◌, ◌<◌, ◌≤◌, Bool, true, false, List, map, length, take, slice_index_or, Some, None, Option}
 use Rattle.std.specs.List.{range_with_len}
 use Rattle.records.specs.declared.numbers.Words.{Words}
 use Rattle.addresses.specs.declared.sizes.Size.{Size}
 use Rattle.addresses.specs.Positions.{choice_of}
 use Rattle.addresses.specs.Sized.{buckets_in, place_in}
 use Rattle.assignment.specs.Assign.{In, count}
-use Rattle.stores.specs.declared.cells.Cell.{Cell}
-use Rattle.stores.specs.declared.cells.Cell.TheVariants.{Empty, Holds}
 
 -- a table: its size, with the settings in it, its count of records, and the cells of its store
 pub record State (R : Type 0) : Type 0 where
   pub size : Size
   pub count : ℕ
-  pub cells : List (Cell R)
+  pub cells : List (Option R)
 
 -- the number of cells that a table of this size uses
 abbrev pub used_in : Size → ℕ
@@ -28,15 +26,15 @@ abbrev pub own_buckets : (Words → ℕ) → Size → Words → List ℕ
 own_buckets hash z w = map (choice_at hash z w) (range_with_len 0 z.settings.choices)
 
 -- whether a cell holds a record
-abbrev pub holding : {R : Type 0} → Cell R → Bool
-holding Empty = false
-holding (Holds r) = true
+abbrev pub holding : {R : Type 0} → Option R → Bool
+holding None = false
+holding (Some r) = true
 
 module _ {R : Type 0} where
   -- cell c is in use and holds r
   pub record HoldsAt (s : State R) (c : ℕ) (r : R) : Type 0 where
     pub used : c < used_in s.size
-    pub here : slice_index_or s.cells c Empty ≡ Holds r
+    pub here : slice_index_or s.cells c None ≡ Some r
 
   -- how many used cells hold a record
   abbrev pub records : State R → ℕ

@@ -1,10 +1,9 @@
 -- What holds of tables.
-use Rattle.std.specs.Prelude.{◌≡◌, ℕ, ◌+◌, ◌<◌, ◌≤◌, List, ◌∷◌, length, slice_index_or, slice_set}
+use Rattle.std.specs.Prelude.{◌≡◌, ℕ, ◌+◌, ◌<◌, ◌≤◌, List, ◌∷◌, length, slice_index_or, slice_set, Some, None}
 use Rattle.records.specs.declared.numbers.Words.{Words}
 use Rattle.addresses.specs.declared.sizes.Size.{Size}
 use Rattle.addresses.specs.Sized.{buckets_in}
 use Rattle.assignment.specs.Assign.{In, moves}
-use Rattle.stores.specs.declared.cells.Cell.TheVariants.{Empty, Holds}
 use Rattle.rules.specs.Placements.{Route, handed}
 use Rattle.rules.specs.Reach.{Blocked, Layers}
 use Rattle.rules.specs.Stored.{AssignsAt, HeldAt, Lying, StoredKey, placement_in, stored_keys}
@@ -18,7 +17,7 @@ OwnBucketsLieBelow = (hash : Words → ℕ) (z : Size) (w : Words) (p : ℕ) →
 abbrev pub AnEmptyTableIsSound : Type 0 → Type 0 → Type 0
 AnEmptyTableIsSound R K =
     (key : R → K) (words : K → Words) (hash : Words → ℕ) (s : State R) →
-    used_in s.size ≤ length s.cells → ((c : ℕ) → c < used_in s.size → slice_index_or s.cells c Empty ≡ Empty) → s.count ≡ 0 →
+    used_in s.size ≤ length s.cells → ((c : ℕ) → c < used_in s.size → slice_index_or s.cells c None ≡ None) → s.count ≡ 0 →
     Sound key words hash s
 
 -- Where a set of full buckets that no record can leave has a key's own, no assignment holds it and all stored keys.
@@ -46,7 +45,7 @@ pub record Enters {R K : Type 0} (key : R → K) (words : K → Words) (hash : W
   pub route : Route (placement_in key words hash s) (hash (words (key r))) first rest
   pub size : u.size ≡ s.size
   pub count : u.count ≡ s.count + 1
-  pub cells : u.cells ≡ handed (first ∷ rest) (Holds r) s.cells
+  pub cells : u.cells ≡ handed (first ∷ rest) (Some r) s.cells
 
 -- A sound table is sound afterwards,
 abbrev pub AnInsertKeepsSound : Type 0 → Type 0 → Type 0
@@ -78,5 +77,5 @@ ASoundTableIsHeld R K =
 abbrev pub AnEraseKeepsSound : Type 0 → Type 0 → Type 0
 AnEraseKeepsSound R K =
     (key : R → K) (words : K → Words) (hash : Words → ℕ) (s u : State R) (c : ℕ) (r : R) →
-    Sound key words hash s → HoldsAt s c r → u.size ≡ s.size → u.count + 1 ≡ s.count → u.cells ≡ slice_set s.cells c Empty →
+    Sound key words hash s → HoldsAt s c r → u.size ≡ s.size → u.count + 1 ≡ s.count → u.cells ≡ slice_set s.cells c None →
     Sound key words hash u

@@ -1,10 +1,9 @@
 -- What cells are made of beneath their meaning, and what no call on a store changes.
-use Rattle.std.specs.Prelude.{ℕ, ◌-◌, cond, List, nat_lt}
-use Rattle.stores.specs.declared.cells.Cell.{Cell}
+use Rattle.std.specs.Prelude.{ℕ, ◌-◌, cond, List, nat_lt, Option}
 
 -- plain numbers or bytes
 pub data Raw (N : Type 0) : Type 0 where
-  of_cell : Cell N → Raw N
+  of_cell : Option N → Raw N
   of_bytes : List ℕ → Raw N
 
 -- The names of the references that a store holds, in the shape of the store; and, of a part of a store, where it begins, its length,
@@ -12,7 +11,7 @@ pub data Raw (N : Type 0) : Type 0 where
 pub data Place (R : Type 0) : Type 0 where
   at_name : ℕ → Place R
   both : Place R → Place R → Place R
-  part : ℕ → ℕ → List (Cell R) → List (Cell R) → Place R → Place R
+  part : ℕ → ℕ → List (Option R) → List (Option R) → Place R → Place R
 
 -- of two things end to end, the first of which has n cells, what belongs to cell k
 abbrev pub either : {X : Type 0} → ℕ → (ℕ → X) → (ℕ → X) → ℕ → X

@@ -24,8 +24,7 @@ impl<R: Record, A: Store<R>, B: Store<R>> Store<R> for Joined<A, B> {
     ghost code = { λ s. either (length (A.Store.cells s.first)) (A.Store.code s.first) (B.Store.code s.second) };
 
     fn length(&self) -> u64 {
-        let all = self.first.length() + self.second.length();
-        if all < MOST { all } else { MOST }
+        (self.first.length() + self.second.length()).min(MOST)
     }
 
     fn read(&self, at: u64) -> Result<Cell<R>, Decline> {

@@ -5,5 +5,6 @@ pub mod cells;
 pub mod joined;
 pub mod lent;
 pub mod plain;
+pub mod row;
 pub mod store;
 pub mod window;

@@ -1,6 +1,5 @@
 // The plain store: a lent slice of cells with plain numbers in them, for any record kind.
-ghost use Rattle.std.specs.Prelude.{◌≡◌, ◌^◌, min, length, slice_index_or};
-ghost use Rattle.stores.specs.declared.cells.Cell.TheVariants.{Empty};
+ghost use Rattle.std.specs.Prelude.{◌≡◌, ◌^◌, min, length, slice_index_or, None};
 ghost use Rattle.stores.specs.Cells.{after, asked, meaning, numbered, plain, read_of, row, slice_after, write_of};
 ghost use Rattle.stores.specs.Makings.{at_name, of_cell};
 
@@ -16,18 +15,14 @@ pub const MOST: u64 = 1_099_511_627_776;
 pub fn slice_length<N>(cells: &[Cell<N>]) -> u64
     ensures { result ≡ min (2 ^ 40) (length cells.now) }
 {
-    let n = cells.len() as u64;
-    if n < MOST { n } else { MOST }
+    (cells.len() as u64).min(MOST)
 }
 
 // What a cell's plain numbers count as: empty, where they make no record.
 pub fn meant_cell<R: Record>(cell: &Cell<R::Numbers>) -> Cell<R>
     ensures { result ≡ meaning R.Record.made cell.now }
 {
-    match asked_cell::<R>(cell) {
-        Ok(meant) => meant,
-        Err(_) => Cell::Empty,
-    }
+    asked_cell::<R>(cell).unwrap_or(None)
 }
 
 // The cell at a place: numbers that make no record count as empty.
@@ -69,7 +64,7 @@ impl<R: Record> Store<R> for Plain<'_, R::Numbers> {
 
     ghost place = { λ s. at_name s.cells.ghost_name };
 
-    ghost raw = { λ s k. of_cell (slice_index_or s.cells.now k Empty) };
+    ghost raw = { λ s k. of_cell (slice_index_or s.cells.now k None) };
 
     ghost code = { λ s k v. of_cell (plain R.Record.numbers_of v) };
 

@@ -1,7 +1,5 @@
 // What every store shows: a list of cells of fixed length for one record kind.
-ghost use Rattle.std.specs.Prelude.{◌≡◌, ℕ, ◌^◌, ◌≤◌, false, List, length, is_ok, Ok, slice_index_or};
-ghost use Rattle.stores.specs.declared.cells.Cell.{Cell};
-ghost use Rattle.stores.specs.declared.cells.Cell.TheVariants.{Empty};
+ghost use Rattle.std.specs.Prelude.{◌≡◌, ℕ, ◌^◌, ◌≤◌, false, List, length, is_ok, Ok, slice_index_or, None, Option};
 ghost use Rattle.stores.specs.Cells.{after, asked, numbered, read_of, write_of};
 ghost use Rattle.stores.specs.Makings.{Place, Raw};
 
@@ -11,7 +9,7 @@ use records::kinds::Record;
 
 pub trait Store<R: Record> {
     // the cells, each empty or holding a record
-    ghost cells: { Self → List (Cell R) };
+    ghost cells: { Self → List (Option R) };
 
     // what no call changes: the memory that the store was lent, and its shape
     ghost place: { Self → Place R };
@@ -20,7 +18,7 @@ pub trait Store<R: Record> {
     ghost raw: { Self → ℕ → Raw R.Numbers };
 
     // what a write makes cell k of
-    ghost code: { Self → ℕ → Cell R → Raw R.Numbers };
+    ghost code: { Self → ℕ → Option R → Raw R.Numbers };
 
     // How many cells there are.
     fn length(&self) -> u64
@@ -37,19 +35,17 @@ pub trait Store<R: Record> {
         ensures cells { cells self.new ≡ after (asked R.Record.made cell.now) (cells self.old) at }
         ensures place { place self.new ≡ place self.old }
         ensures others { (k : ℕ) → (k ≡ at → is_ok result ≡ false) → raw self.new k ≡ raw self.old k }
-        ensures made { result ≡ Ok tt → raw self.new at ≡ code self.old at (slice_index_or (cells self.new) at Empty) }
-        ensures codes { (k : ℕ) (v : Cell R) → code self.new k v ≡ code self.old k v };
+        ensures made { result ≡ Ok tt → raw self.new at ≡ code self.old at (slice_index_or (cells self.new) at None) }
+        ensures codes { (k : ℕ) (v : Option R) → code self.new k v ≡ code self.old k v };
 }
 
 // The cell that a write of plain numbers asks for, or why they make no record.
 pub fn asked_cell<R: Record>(cell: &Cell<R::Numbers>) -> Result<Cell<R>, Decline>
     ensures { result ≡ asked R.Record.made cell.now }
 {
+    // no `map` and `transpose`: the borrow checker does not cover `map` with `R::from_numbers`
     match *cell {
-        Cell::Empty => Ok(Cell::Empty),
-        Cell::Holds(numbers) => match R::from_numbers(numbers) {
-            Ok(made) => Ok(Cell::Holds(made)),
-            Err(decline) => Err(decline),
-        },
+        Some(numbers) => Ok(Some(R::from_numbers(numbers)?)),
+        None => Ok(None),
     }
 }

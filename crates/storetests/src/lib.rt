@@ -13,65 +13,36 @@ mod tests {
     use stores::store::Store;
     use stores::window::Window;
 
-    // What a read shows: nothing, a record by its tag and grower or by its plate's first word and tare, or a decline's number.
-    #[derive(Clone, Copy, PartialEq, Eq, Debug)]
-    enum Seen {
-        Nothing,
-        Holds(u64, u32),
-        Declined(u8),
-    }
-
-    fn tag_in(cell: Cell<TagRecord>) -> Seen {
-        match cell {
-            Cell::Empty => Seen::Nothing,
-            Cell::Holds(held) => Seen::Holds(held.tag, held.grower),
-        }
-    }
-
-    fn tare_in(cell: Cell<TareRecord>) -> Seen {
-        match cell {
-            Cell::Empty => Seen::Nothing,
-            Cell::Holds(held) => Seen::Holds(held.plate.first, held.tare),
-        }
-    }
+    // What a read shows: a record by its tag and grower or by its plate's first word and tare, nothing, or a decline's number.
+    type Seen = Result<Option<(u64, u32)>, u8>;
 
     fn tag_at<S: Store<TagRecord>>(s: &S, at: u64) -> Seen {
-        match s.read(at) {
-            Ok(cell) => tag_in(cell),
-            Err(decline) => Seen::Declined(decline.number()),
-        }
+        let cell = s.read(at).map_err(|decline| decline.number())?;
+        Ok(cell.map(|held| (held.tag, held.grower)))
     }
 
     fn tare_at<S: Store<TareRecord>>(s: &S, at: u64) -> Seen {
-        match s.read(at) {
-            Ok(cell) => tare_in(cell),
-            Err(decline) => Seen::Declined(decline.number()),
-        }
+        let cell = s.read(at).map_err(|decline| decline.number())?;
+        Ok(cell.map(|held| (held.plate.first, held.tare)))
     }
 
-    // The number of a write's decline, 0 where it was taken.
-    fn declined(answer: Result<(), Decline>) -> u8 {
-        match answer {
-            Ok(()) => 0,
-            Err(decline) => decline.number(),
-        }
+    // A write's answer, with its decline by number.
+    fn written(answer: Result<(), Decline>) -> Result<(), u8> {
+        answer.map_err(|decline| decline.number())
     }
 
     fn tag(tag: u64, grower: u32, grain: u8) -> Cell<TagNumbers> {
-        Cell::Holds(TagNumbers { tag, grower, grain })
+        Some(TagNumbers { tag, grower, grain })
     }
 
     // The grower's number in a cell of plain numbers, lawful or not.
     fn grower(cell: Cell<TagNumbers>) -> u32 {
-        match cell {
-            Cell::Empty => 0,
-            Cell::Holds(numbers) => numbers.grower,
-        }
+        cell.map_or(0, |numbers| numbers.grower)
     }
 
     // The plate with these first eight characters and no more.
     fn tare(plate: &[u8; 8], tare: u32) -> Cell<TareNumbers> {
-        Cell::Holds(TareNumbers {
+        Some(TareNumbers {
             first: u64::from_be_bytes(*plate),
             second: 0x2020_2020,
             tare,
@@ -81,16 +52,16 @@ mod tests {
 
     fn tags_plainly<S: Store<TagRecord>>(rt: &impl Abort, s: &mut S) {
         assert_eq!(rt; s.length(), 3);
-        assert_eq!(rt; tag_at(s, 0), Seen::Holds(1, 10));
-        assert_eq!(rt; tag_at(s, 1), Seen::Nothing, "grain 0 makes no record");
-        assert_eq!(rt; tag_at(s, 3), Seen::Declined(13));
-        assert_eq!(rt; declined(s.write(0, &tag(4, 40, 10))), 4);
-        assert_eq!(rt; declined(s.write(3, &tag(4, 40, 10))), 4);
-        assert_eq!(rt; declined(s.write(3, &tag(4, 40, 9))), 13);
-        assert_eq!(rt; declined(s.write(3, &Cell::Empty)), 13);
-        assert_eq!(rt; declined(s.write(2, &tag(4, 40, 9))), 0);
-        assert_eq!(rt; tag_at(s, 0), Seen::Holds(1, 10));
-        assert_eq!(rt; tag_at(s, 2), Seen::Holds(4, 40));
+        assert_eq!(rt; tag_at(s, 0), Ok(Some((1, 10))));
+        assert_eq!(rt; tag_at(s, 1), Ok(None), "grain 0 makes no record");
+        assert_eq!(rt; tag_at(s, 3), Err(13));
+        assert_eq!(rt; written(s.write(0, &tag(4, 40, 10))), Err(4));
+        assert_eq!(rt; written(s.write(3, &tag(4, 40, 10))), Err(4));
+        assert_eq!(rt; written(s.write(3, &tag(4, 40, 9))), Err(13));
+        assert_eq!(rt; written(s.write(3, &None)), Err(13));
+        assert_eq!(rt; written(s.write(2, &tag(4, 40, 9))), Ok(()));
+        assert_eq!(rt; tag_at(s, 0), Ok(Some((1, 10))));
+        assert_eq!(rt; tag_at(s, 2), Ok(Some((4, 40))));
         assert_eq!(rt; s.length(), 3);
     }
 
@@ -111,60 +82,52 @@ mod tests {
         let red = u64::from_be_bytes(*b"RED1    ");
         let blue = u64::from_be_bytes(*b"BLUE7   ");
         assert_eq!(rt; s.length(), 3);
-        assert_eq!(rt; tare_at(s, 0), Seen::Holds(red, 8000));
+        assert_eq!(rt; tare_at(s, 0), Ok(Some((red, 8000))));
+        assert_eq!(rt; tare_at(s, 1), Ok(None), "a plate has no small letters");
+        assert_eq!(rt; tare_at(s, 2), Ok(None));
+        assert_eq!(rt; tare_at(s, 3), Err(13));
+        assert_eq!(rt; written(s.write(2, &tare(b"BLUE 7  ", 9000))), Err(3));
         assert_eq!(rt;
-            tare_at(s, 1),
-            Seen::Nothing,
-            "a plate has no small letters"
-        );
-        assert_eq!(rt; tare_at(s, 2), Seen::Nothing);
-        assert_eq!(rt; tare_at(s, 3), Seen::Declined(13));
-        assert_eq!(rt; declined(s.write(2, &tare(b"BLUE 7  ", 9000))), 3);
-        assert_eq!(rt;
-            declined(s.write(3, &tare(b"BLUE 7  ", 0))),
-            3,
+            written(s.write(3, &tare(b"BLUE 7  ", 0))),
+            Err(3),
             "3 comes before 4"
         );
         assert_eq!(rt;
-            declined(s.write(3, &tare(b"BLUE7   ", 0))),
-            4,
+            written(s.write(3, &tare(b"BLUE7   ", 0))),
+            Err(4),
             "and 4 before 13"
         );
-        assert_eq!(rt; declined(s.write(2, &tare(b"BLUE7   ", 100_001))), 4);
-        assert_eq!(rt; declined(s.write(3, &tare(b"BLUE7   ", 100_000))), 13);
-        assert_eq!(rt; tare_at(s, 2), Seen::Nothing);
-        assert_eq!(rt; declined(s.write(2, &tare(b"BLUE7   ", 100_000))), 0);
-        assert_eq!(rt; tare_at(s, 0), Seen::Holds(red, 8000));
-        assert_eq!(rt; tare_at(s, 1), Seen::Nothing);
-        assert_eq!(rt; tare_at(s, 2), Seen::Holds(blue, 100_000));
-        assert_eq!(rt; declined(s.write(0, &Cell::Empty)), 0);
-        assert_eq!(rt; tare_at(s, 0), Seen::Nothing);
+        assert_eq!(rt; written(s.write(2, &tare(b"BLUE7   ", 100_001))), Err(4));
+        assert_eq!(rt; written(s.write(3, &tare(b"BLUE7   ", 100_000))), Err(13));
+        assert_eq!(rt; tare_at(s, 2), Ok(None));
+        assert_eq!(rt; written(s.write(2, &tare(b"BLUE7   ", 100_000))), Ok(()));
+        assert_eq!(rt; tare_at(s, 0), Ok(Some((red, 8000))));
+        assert_eq!(rt; tare_at(s, 1), Ok(None));
+        assert_eq!(rt; tare_at(s, 2), Ok(Some((blue, 100_000))));
+        assert_eq!(rt; written(s.write(0, &None)), Ok(()));
+        assert_eq!(rt; tare_at(s, 0), Ok(None));
     }
 
     #[test]
     fn plain_tares(rt: HostRuntime) {
-        let mut cells = [
-            tare(b"RED1    ", 8000),
-            tare(b"blue7   ", 9000),
-            Cell::Empty,
-        ];
+        let mut cells = [tare(b"RED1    ", 8000), tare(b"blue7   ", 9000), None];
         tares_plainly(&rt, &mut Plain { cells: &mut cells });
     }
 
     // Through a window on the join of two cells and a window on the middle two of four, from its second cell on.
     fn through_all<S: Store<TagRecord>>(rt: &impl Abort, s: &mut S) {
         assert_eq!(rt; s.length(), 3, "cut off at the end of the inner store");
-        assert_eq!(rt; tag_at(s, 0), Seen::Holds(2, 20));
-        assert_eq!(rt; tag_at(s, 1), Seen::Holds(4, 40));
-        assert_eq!(rt; tag_at(s, 2), Seen::Holds(5, 50));
-        assert_eq!(rt; tag_at(s, 3), Seen::Declined(13));
-        assert_eq!(rt; declined(s.write(3, &tag(7, 70, 0))), 4);
-        assert_eq!(rt; declined(s.write(3, &tag(7, 70, 1))), 13);
-        assert_eq!(rt; declined(s.write(0, &tag(8, 80, 1))), 0);
-        assert_eq!(rt; declined(s.write(2, &tag(9, 90, 1))), 0);
-        assert_eq!(rt; tag_at(s, 0), Seen::Holds(8, 80));
-        assert_eq!(rt; tag_at(s, 1), Seen::Holds(4, 40));
-        assert_eq!(rt; tag_at(s, 2), Seen::Holds(9, 90));
+        assert_eq!(rt; tag_at(s, 0), Ok(Some((2, 20))));
+        assert_eq!(rt; tag_at(s, 1), Ok(Some((4, 40))));
+        assert_eq!(rt; tag_at(s, 2), Ok(Some((5, 50))));
+        assert_eq!(rt; tag_at(s, 3), Err(13));
+        assert_eq!(rt; written(s.write(3, &tag(7, 70, 0))), Err(4));
+        assert_eq!(rt; written(s.write(3, &tag(7, 70, 1))), Err(13));
+        assert_eq!(rt; written(s.write(0, &tag(8, 80, 1))), Ok(()));
+        assert_eq!(rt; written(s.write(2, &tag(9, 90, 1))), Ok(()));
+        assert_eq!(rt; tag_at(s, 0), Ok(Some((8, 80))));
+        assert_eq!(rt; tag_at(s, 1), Ok(Some((4, 40))));
+        assert_eq!(rt; tag_at(s, 2), Ok(Some((9, 90))));
     }
 
     fn window_on<S: Store<TagRecord>>(rt: &impl Abort, s: &mut S) {
@@ -217,9 +180,9 @@ mod tests {
     // Nothing lies in a window that starts at the end of a store, or past it.
     fn nothing_in<S: Store<TagRecord>>(rt: &impl Abort, s: &mut S) {
         assert_eq!(rt; s.length(), 0);
-        assert_eq!(rt; tag_at(s, 0), Seen::Declined(13));
-        assert_eq!(rt; declined(s.write(0, &tag(1, 10, 0))), 4);
-        assert_eq!(rt; declined(s.write(0, &tag(1, 10, 1))), 13);
+        assert_eq!(rt; tag_at(s, 0), Err(13));
+        assert_eq!(rt; written(s.write(0, &tag(1, 10, 0))), Err(4));
+        assert_eq!(rt; written(s.write(0, &tag(1, 10, 1))), Err(13));
     }
 
     fn window_from<S: Store<TagRecord>>(rt: &impl Abort, s: &mut S, start: u64) {

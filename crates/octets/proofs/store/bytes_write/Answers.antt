@@ -3,7 +3,7 @@ use borrow.Rule.Slice.PartMut.{put_mid, same_len_mid}
 use Rattle.std.proofs.lemmas.List.{length-take, length-drop, set_past}
 use Rattle.stores.specs.Cells.{after, asked, write_of}
 use Rattle.stores.proofs.Rows.{write_in, write_out}
-use Rattle.octets.specs.Codec.{byte_row, bytes_after, cells_of, decoded, encoded, in_cell}
+use Rattle.octets.specs.Codec.{byte_row, bytes_after, cells_of}
 use Rattle.octets.proofs.Frames.{row_length, written, raw_in, raw_out}
 use Rattle.octets.proofs.store.bytes_write.Goals as goal
 
@@ -12,8 +12,8 @@ returns-then-at-bytes_length g c =
     let bs = c.args.bytes.now in
     let at = c.args.at in
     let v = c.in_ok-wanted.wanted in
-    let D = decoded g.R.Coded.kind g.R.Coded.end g.R.Coded.numbers_in g.R.Record.made in
-    let E = encoded g.R.Coded.kind g.R.Coded.fields g.R.Record.numbers_of in
+    let D = g.R.Coded.record_in in
+    let E = g.R.Coded.bytes_of in
     let xs = byte_row D bs in
     let o : asked g.R.Record.made c.args.cell.now ≡ Ok v = sym c.asked_cell.ensures ∙ c.in_ok-wanted.was in
     let e = row_length D bs in
@@ -30,8 +30,8 @@ returns g c =
     let bs = c.args.bytes.now in
     let at = c.args.at in
     let v = c.in_ok-wanted.wanted in
-    let D = decoded g.R.Coded.kind g.R.Coded.end g.R.Coded.numbers_in g.R.Record.made in
-    let E = encoded g.R.Coded.kind g.R.Coded.fields g.R.Record.numbers_of in
+    let D = g.R.Coded.record_in in
+    let E = g.R.Coded.bytes_of in
     let xs = byte_row D bs in
     let ys = c.copy_from_slice.new.self in
     let o : asked g.R.Record.made c.args.cell.now ≡ Ok v = sym c.asked_cell.ensures ∙ c.in_ok-wanted.was in
@@ -48,7 +48,7 @@ returns g c =
       cells =
           ap (λ n. byte_row D (put_mid (32 * at) n bs ys)) w
           ∙ written bs ys at fits full D same lt
-          ∙ ap (λ v. set xs at v) (ap (λ c. in_cell (D c)) c.copy_from_slice.ensures.after ∙ c.encode-code.ensures.back)
+          ∙ ap (λ v. set xs at v) (ap (λ c. D c) c.copy_from_slice.ensures.after ∙ c.encode-code.ensures.back)
           ∙ sym (ap (λ o. after o xs at) o);
       raw =
           ap (λ n. put_mid (32 * at) n bs ys) w

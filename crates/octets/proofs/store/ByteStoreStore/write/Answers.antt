@@ -1,8 +1,8 @@
+use Rattle.std.specs.Prelude.{None}
 use Rattle.std.proofs.Common.{◌≡◌, suc, length, get_or, sym, refl, ap, ◌∙◌}
-use Rattle.stores.specs.declared.cells.Cell.TheVariants.{Empty}
 use Rattle.stores.specs.Cells.{asked}
 use Rattle.stores.specs.Makings.{of_bytes}
-use Rattle.octets.specs.Codec.{cell_bytes, coded, decoded, encoded}
+use Rattle.octets.specs.Codec.{cell_bytes, coded}
 use Rattle.octets.proofs.Frames.{bytes_others, bytes_made}
 use Rattle.octets.proofs.store.ByteStoreStore.write.Goals as goal
 
@@ -13,9 +13,9 @@ returns g c =
     let r = c.bytes_write.result in
     let w = c.bytes_write.ensures in
     let o = asked g.R.Record.made c.args.cell.now in
-    let D = decoded g.R.Coded.kind g.R.Coded.end g.R.Coded.numbers_in g.R.Record.made in
-    let E = encoded g.R.Coded.kind g.R.Coded.fields g.R.Record.numbers_of in
-    let sized : (x : g.row.R.Denot) → length (E x) ≡ 32 = λ x. ap (λ n. suc (suc n)) (g.met.R.Coded.thirty (g.R.Record.numbers_of x)) in
+    let D = g.R.Coded.record_in in
+    let E = g.R.Coded.bytes_of in
+    let sized : (x : g.row.R.Denot) → length (E x) ≡ 32 = λ x. ap length (g.met.R.Coded.writes x) ∙ ap (λ n. suc (suc n)) (g.met.R.Coded.thirty (g.R.Record.numbers_of x)) in
     record {
       answer = w.answer;
       cells = w.cells;
@@ -25,6 +25,6 @@ returns g c =
           ap of_bytes
           (ap (λ zs. cell_bytes zs at) w.raw
           ∙ bytes_made E sized D o r bs at w.answer e
-          ∙ ap (λ xs. coded E (get_or xs at Empty)) (sym w.cells));
+          ∙ ap (λ xs. coded E (get_or xs at None)) (sym w.cells));
       codes = λ k v. refl;
     }

@@ -1,5 +1,5 @@
+use Rattle.std.specs.Prelude.{None}
 use Rattle.std.proofs.Common.{◌≡◌, ◌-◌, ◌^◌, ◌<◌, ◌≤◌, ◌++◌, length, get_or, take, sym, refl, ap, ◌∙◌, arith}
-use Rattle.stores.specs.declared.cells.Cell.TheVariants.{Empty}
 use Rattle.stores.specs.Cells.{asked}
 use Rattle.stores.specs.Makings.{both}
 use Rattle.stores.proofs.Rows.{length_after, err_not_ok}
@@ -51,7 +51,7 @@ returns-then-at-a g c =
           either_first (length zs) (g.A.Store.raw t) (g.B.Store.raw s.second) at hz
           ∙ w.made q
           ∙ ap (g.A.Store.code s.first at) (joined_left (2 ^ 40) zs ys at m hz)
-          ∙ ap (λ f. f (get_or (take (2 ^ 40) (zs ++ ys)) at Empty)) (sym (either_first (length xs) (g.A.Store.code s.first) (g.B.Store.code s.second) at h));
+          ∙ ap (λ f. f (get_or (take (2 ^ 40) (zs ++ ys)) at None)) (sym (either_first (length xs) (g.A.Store.code s.first) (g.B.Store.code s.second) at h));
       codes = λ k v.
           ap (λ f. f v)
           (either_same (length xs) (length zs) (g.A.Store.code s.first) (g.A.Store.code t) (g.B.Store.code s.second) (g.B.Store.code s.second) k n (λ _ i v. w.codes k v i) (λ _. refl));
@@ -88,8 +88,8 @@ returns-else-at-a g c =
           ∙ ap (λ n. g.B.Store.raw t (at - n)) (sym en)
           ∙ w.made q
           ∙ ap (g.B.Store.code s.second (at - n)) (joined_right (2 ^ 40) xs zs n at m (sym en) l)
-          ∙ ap (λ n. g.B.Store.code s.second (at - n) (get_or (take (2 ^ 40) (xs ++ zs)) at Empty)) en
-          ∙ ap (λ f. f (get_or (take (2 ^ 40) (xs ++ zs)) at Empty)) (sym (either_second (length xs) (g.A.Store.code s.first) (g.B.Store.code s.second) at lx));
+          ∙ ap (λ n. g.B.Store.code s.second (at - n) (get_or (take (2 ^ 40) (xs ++ zs)) at None)) en
+          ∙ ap (λ f. f (get_or (take (2 ^ 40) (xs ++ zs)) at None)) (sym (either_second (length xs) (g.A.Store.code s.first) (g.B.Store.code s.second) at lx));
       codes = λ k v.
           ap (λ f. f v)
           (either_same (length xs) (length xs) (g.A.Store.code s.first) (g.A.Store.code s.first) (g.B.Store.code s.second) (g.B.Store.code t) k refl (λ _. refl) (λ _ i v. w.codes (k - length xs) v i));
