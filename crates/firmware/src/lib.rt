@@ -12,7 +12,7 @@ use modules::faults::Fault;
 use records::declines::Decline;
 use records::numbers::Words;
 
-// 0, or the decline's number and 256 times the cell that it names.
+// 0, or the decline's number and 256 times the cell that it names: C gets numbers.
 fn check_number(answer: Result<(), Fault>) -> u64
     ensures { result ≡ check_number_lem answer }
 {

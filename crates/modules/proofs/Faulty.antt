@@ -1,15 +1,23 @@
 -- Faults of cells, from what the tests say.
-use Rattle.std.proofs.Common.{◌≡◌, ℕ, ◌+◌, ◌*◌, ◌/◌, ◌<◌, ◌≤◌, Bool, true, false, get_or, sym, refl, ap, ◌∙◌, subst, inl, inr, ⊎_elim, div-mul-le_self, arith}
-use native.Mathlib.Nat.{lt-div-mul-add}
-use Rattle.std.proofs.lemmas.Bool.{cases_lt, cases_Bool, both_ways}
+use Rattle.std.specs.Prelude.{Some, None, Option, is_some}
+use Rattle.std.proofs.Common.{◌≡◌, ℕ, ◌+◌, ◌/◌, ◌<◌, ◌≤◌, Bool, true, false, ◌≢◌, get_or, sym, refl, ap, ◌∙◌, subst, inl, inr, ⊎_elim, arith}
+use Rattle.std.proofs.lemmas.Bool.{cases_lt, both_ways}
+use Rattle.records.specs.declared.declines.Decline.TheVariants.{WrongCount}
 use Rattle.records.specs.declared.numbers.Words.{Words}
+use Rattle.records.specs.Declines.{number}
 use Rattle.assignment.specs.Assign.{In}
-use Rattle.stores.specs.declared.cells.Cell.TheVariants.{Empty}
-use Rattle.rules.specs.Tables.{State, HoldsAt, choice_at, own_buckets}
+use Rattle.rules.specs.Tables.{State, HoldsAt, choice_at, holding, own_buckets, records, used_in}
 use Rattle.rules.proofs.Owned.{choice_of_lem, in_or_not}
-use Rattle.rules.proofs.Sounds.{not_both, same_held}
-use Rattle.modules.specs.Checks.{Misplaced, Repeated, Fine, FaultIs, AllFine}
-use Rattle.modules.specs.Finds.{Meets, Match, NoMatch}
+use Rattle.rules.proofs.Sounds.{same_held}
+use Rattle.lookup.proofs.Seeks.{none_there}
+use Rattle.modules.specs.declared.faults.Fault.{Fault}
+use Rattle.modules.specs.Checks.{Misplaced, Repeated, Fine, FaultIs, AllFine, Named}
+use Rattle.lookup.specs.Finds.{Meets, Match, NoMatch}
+
+-- a cell holds a record where it is not empty
+pub holding_some : {R : Type 0} (v : Option R) → holding v ≡ is_some v
+holding_some None = refl
+holding_some (Some r) = refl
 
 module _ {R K : Type 0} (law : ℕ → Bool) (key : R → K) (words : K → Words) (hash : Words → ℕ) (s : State R) (k : ℕ) where
   pub fine : law k ≡ true → (Misplaced law key words hash s k → ⊥) → (Repeated law key words hash s k → ⊥) → Fine law key words hash s k
@@ -18,16 +26,8 @@ module _ {R K : Type 0} (law : ℕ → Bool) (key : R → K) (words : K → Word
   pub unlawful : law k ≡ false → FaultIs law key words hash s k 15
   unlawful l = (inl (l, refl), λ z. omega arith)
 
-  pub misplaced : law k ≡ true → Misplaced law key words hash s k → FaultIs law key words hash s k 16
-  misplaced l m = (inr (λ f. both_ways (law k) f l, inl (m, refl)), λ z. omega arith)
-
   pub repeated : law k ≡ true → (Misplaced law key words hash s k → ⊥) → Repeated law key words hash s k → FaultIs law key words hash s k 17
   repeated l m r = (inr (λ f. both_ways (law k) f l, inr (m, inl (r, refl))), λ z. omega arith)
-
-  -- what a fine cell is
-  pub lawful_of : Fine law key words hash s k → law k ≡ true
-  lawful_of (inl f) = absurd (omega (arith, f.1))
-  lawful_of (inr f) = elim (cases_Bool (law k)) [ inl t ↦ t | inr n ↦ absurd (f.0 n) ]
 
   pub placed_of : Fine law key words hash s k → Misplaced law key words hash s k → ⊥
   placed_of (inl f) m = omega (arith, f.1)
@@ -45,16 +45,11 @@ module _ {R K : Type 0} (law : ℕ → Bool) (key : R → K) (words : K → Word
   home_of f r h =
       elim (in_or_not (k / s.size.settings.cells) (own_buckets hash s.size (words (key r)))) [ inl own ↦ own | inr out ↦ absurd (placed_of f (r, h, out)) ]
 
-  -- an empty cell
-  pub empty_fine : law k ≡ true → get_or s.cells k Empty ≡ Empty → Fine law key words hash s k
-  empty_fine l e =
-      fine l (λ m. not_both (get_or s.cells k Empty) m.0 e m.1.here) (λ m. not_both (get_or s.cells k Empty) m.0 e m.1.here)
-
   -- a cell that holds r in use
   module _ (r : R) (h : HoldsAt s k r) where
     pub own_placed : In (k / s.size.settings.cells) (own_buckets hash s.size (words (key r))) → Misplaced law key words hash s k → ⊥
     own_placed own m =
-        m.2 (subst (λ x. In (k / s.size.settings.cells) (own_buckets hash s.size (words (key x)))) (same_held (get_or s.cells k Empty) r m.0 h.here m.1.here) own)
+        m.2 (subst (λ x. In (k / s.size.settings.cells) (own_buckets hash s.size (words (key x)))) (same_held (get_or s.cells k None) r m.0 h.here m.1.here) own)
 
 -- an earlier cell with the key of a cell's record lies in the key's own buckets, since that cell is fine
 pub none_alone :
@@ -64,7 +59,7 @@ pub none_alone :
     Repeated law key words hash s k → ⊥
 none_alone law key words hash s k r h some below none m =
     let B = s.size.settings.cells in
-    let e : m.0 ≡ r = same_held (get_or s.cells k Empty) m.0 r m.1.here h.here in
+    let e : m.0 ≡ r = same_held (get_or s.cells k None) m.0 r m.1.here h.here in
     let j = m.2.0 in
     let q = m.2.1 in
     let lt = m.2.2 in
@@ -72,9 +67,7 @@ none_alone law key words hash s k r h some below none m =
     let same : words (key q) ≡ words (key r) = ap words m.2.4 ∙ ap (λ x. words (key x)) e in
     let own = choice_of_lem hash s.size (words (key q)) (j / B) (home_of law key words hash s j (below j lt) q at) in
     let p : choice_at hash s.size (words (key r)) own.0 ≡ j / B = ap (λ w. choice_at hash s.size w own.0) (sym same) ∙ sym own.2 in
-    let low : choice_at hash s.size (words (key r)) own.0 * B ≤ j = subst (λ p. p * B ≤ j) (sym p) (div-mul-le_self j B) in
-    let high : j < choice_at hash s.size (words (key r)) own.0 * B + B = subst (λ p. j < p * B + B) (sym p) (lt-div-mul-add some) in
-    none own.0 own.1 j low high (lt, (q, record { here = at.here; same = same }))
+    none_there _ (choice_at hash s.size (words (key r))) s.size.settings.choices B some none own.0 j own.1 p (lt, (q, record { here = at.here; same = same }))
 
 module _ {R K : Type 0} (law : ℕ → Bool) (key : R → K) (words : K → Words) (hash : Words → ℕ) (s : State R) where
   pub all_more : (i : ℕ) → AllFine law key words hash s i → Fine law key words hash s i → AllFine law key words hash s (i + 1)
@@ -85,6 +78,13 @@ module _ {R K : Type 0} (law : ℕ → Bool) (key : R → K) (words : K → Word
   all_end i n f h k l = f k (omega arith)
 
 -- what the search for a second record says of a cell that holds r, where w are the words of its key
+-- all cells are fine, and the count is wrong
+pub wrong_count :
+    {R K : Type 0} (law : ℕ → Bool) (key : R → K) (words : K → Words) (hash : Words → ℕ) (s : State R) (f : Fault) → f.decline ≡ WrongCount → f.cell ≡ None →
+    AllFine law key words hash s (used_in s.size) → (records s ≢ s.count) → Named law key words hash s f.cell (number f.decline)
+wrong_count law key words hash s f d n fine wrong =
+    subst (λ c. Named law key words hash s c (number f.decline)) (sym n) (ap number d, fine, wrong)
+
 module _ {R K : Type 0} (law : ℕ → Bool) (key : R → K) (words : K → Words) (hash : Words → ℕ) (s : State R) (k : ℕ) (r : R) (h : HoldsAt s k r)
     (w : Words) (is : w ≡ words (key r)) (l : law k ≡ true) (own : In (k / s.size.settings.cells) (own_buckets hash s.size w)) where
   placed : Misplaced law key words hash s k → ⊥

@@ -1,4 +1,3 @@
-pub mod Seeks
 pub mod Faulty
 pub mod Whole
 pub mod Ones

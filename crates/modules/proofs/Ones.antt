@@ -7,7 +7,7 @@ use Rattle.records.specs.declared.plates.Plate.{Plate}
 use Rattle.records.specs.Declines.{number}
 use Rattle.records.specs.Kinds.{plate_words, tag_words}
 use Rattle.records.specs.Taken.{same_decline}
-use Rattle.stores.specs.declared.cells.Cell.TheVariants.{Empty}
+use Rattle.octets.specs.Kinds.{tag_decoded, tare_decoded}
 use Rattle.octets.specs.Codec.{byte_row, lawful_at}
 use Rattle.rules.specs.Rows.{Row, First}
 use Rattle.rules.specs.Tables.{State, used_in}
@@ -17,8 +17,8 @@ use Rattle.trailers.specs.Trailers.{LawfulTrailer, numbers_in}
 use Rattle.trailers.proofs.Decided.{lawful_or_not, layout_of}
 use Rattle.modules.specs.declared.faults.Fault.{Fault}
 use Rattle.modules.specs.Checks.{AllFine, Named, Checks, faults}
-use Rattle.modules.specs.Finds.{FirstIn, FirstMatch, NoMatch}
-use Rattle.modules.specs.Modules.{cells_part_lem, hash_by, in_module, tare_decoded, tag_decoded, words_of_tare, words_of_tag, NoTrailer, DeclinedWith, CellIs, RecordIs}
+use Rattle.lookup.specs.Finds.{FirstIn, FirstMatch, NoMatch}
+use Rattle.modules.specs.Modules.{cells_part_lem, hash_by, in_module, words_of_tare, words_of_tag, NoTrailer, DeclinedWith, CellIs, RecordIs}
 use Rattle.modules.specs.Laws.{CheckHasOneAnswer, FindHasOneAnswer, FindCellHasOneAnswer}
 
 one_first : (rows : List Row) (n m : ℕ) → First rows n → First rows m → n ≡ m
@@ -137,7 +137,7 @@ one_record D words bs w l (Ok None) (Ok None) a b = refl
 one_record D words bs w l (Ok None) (Ok (Some y)) a b = absurd (none_first _ _ _ _ b.0 a b.1)
 one_record D words bs w l (Ok (Some x)) (Ok None) a b = absurd (none_first _ _ _ _ a.0 b a.1)
 one_record D words bs w l (Ok (Some x)) (Ok (Some y)) a b =
-    ap (λ x. Ok (Some x)) (let e = one_match _ _ _ _ a.0 b.0 a.1 b.1 in same_held _ x y a.2.here (ap (λ k. get_or (byte_row D (cells_part_lem bs)) k Empty) e ∙ b.2.here))
+    ap (λ x. Ok (Some x)) (let e = one_match _ _ _ _ a.0 b.0 a.1 b.1 in same_held _ x y a.2.here (ap (λ k. get_or (byte_row D (cells_part_lem bs)) k None) e ∙ b.2.here))
 one_record D words bs w l (Ok o) (Err d) a b = absurd b
 one_record D words bs w l (Err d) q a b = absurd a
 

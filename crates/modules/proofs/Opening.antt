@@ -1,8 +1,9 @@
 -- Parts of a module, and opening one.
 use Rattle.std.proofs.Common.{◌≡◌, ℕ, ◌-◌, ◌≤◌, ◌⊎◌, List, length, take, drop, Ok, Err, Option, Result, sym, ap, ◌∙◌, subst, inl, inr, arith}
+use Rattle.std.specs.Result.{result_unwrap_or}
 use Rattle.std.proofs.lemmas.Bool.{cases_eq, le-leb}
 use Rattle.records.specs.declared.numbers.Words.{Words}
-use Rattle.octets.specs.Codec.{byte_row, lawful_at}
+use Rattle.octets.specs.Codec.{lawful_at}
 use Rattle.addresses.proofs.Steps.{same_settings, same_size}
 use Rattle.trailers.specs.declared.layouts.Layout.{Layout}
 use Rattle.trailers.specs.Closing.{closing}
@@ -12,10 +13,10 @@ use Rattle.trailers.proofs.Decided.{lawful_or_not, layout_of}
 use Rattle.modules.specs.declared.faults.Fault.{Fault}
 use Rattle.modules.specs.declared.opens.Opened.{Opened}
 use Rattle.modules.specs.declared.parts.Part.{Part}
-use Rattle.modules.specs.Checks.{Checks, table_of}
+use Rattle.modules.specs.Checks.{Checks, table_over}
 use Rattle.modules.specs.Modules.{cells_part_lem, in_module}
 use Rattle.modules.specs.Laws.{OpenHasOneAnswer, WhatWasClosedOpens}
-use Rattle.modules.specs.Opens.{Names, FirstOpens, OpensSound, IsOpened}
+use Rattle.modules.specs.Opens.{FirstOpens, IsOpened, Names, Opens, OpensSound, SecondOpens, Smallest}
 use Rattle.modules.specs.Parts.{part_of}
 use Rattle.modules.proofs.Whole.{for_layout, accepts, reaches, part_length}
 use Rattle.modules.proofs.Ones.{no_trailers, one_check}
@@ -49,13 +50,13 @@ module _ {R K : Type 0} (D : List ℕ → Option R) (k f : ℕ) (key : R → K) 
   -- the check of the cells, once the trailer is right
   pub first_opens :
       (part : List ℕ) (m : Layout) (r : Result (Unit {0}) Fault) → Names k f bs → numbers_of m ≡ numbers_in bs → part ≡ cells_part_lem bs →
-      Checks (lawful_at D part) key words hash (table_of m.size m.count (byte_row D part)) r →
+      Checks (lawful_at D part) key words hash (table_over D m part) r →
       FirstOpens D k f key words hash bs r × (r ≡ Ok tt → OpensSound D key words hash bs)
   first_opens part m r names e q h =
       let every : (l : Layout) → numbers_of l ≡ numbers_in bs → Checks (lawful_at D (cells_part_lem bs)) key words hash (in_module D l bs) r =
       λ l g.
       for_layout (λ l. Checks (lawful_at D (cells_part_lem bs)) key words hash (in_module D l bs) r) m l (numbers_in bs) e g
-      (subst (λ p. Checks (lawful_at D p) key words hash (table_of m.size m.count (byte_row D p)) r) q h) in (
+      (subst (λ p. Checks (lawful_at D p) key words hash (table_over D m p) r) q h) in (
         record { trailer = λ not. absurd (not names); cells = λ _ l g. every l g },
         λ ok l g. accepts (lawful_at D (cells_part_lem bs)) key words hash (in_module D l bs) r (reaches D bs l names.lawful g) ok (every l g),
       )
@@ -70,8 +71,13 @@ module _ {R K : Type 0} (D : List ℕ → Option R) (k f : ℕ) (key : R → K) 
       ]
 
   -- a decline is no acceptance
-  pub not_both : (e : Fault) → FirstOpens D k f key words hash bs (Err e) → FirstOpens D k f key words hash bs (Ok tt) → ⊥
+  not_both : (e : Fault) → FirstOpens D k f key words hash bs (Err e) → FirstOpens D k f key words hash bs (Ok tt) → ⊥
   not_both e a b = let same = one_opening (Err e) (Ok tt) a b in let z : ◌≡◌ {A = ℕ} 0 1 = cc in omega arith
+
+  -- what is opened, or the smallest table where the module does not open
+  pub second_opens : (r : Result Opened Fault) (n : Opened) → Opens D k f key words hash bs r → Smallest n → SecondOpens D k f key words hash bs (result_unwrap_or r n)
+  second_opens (Ok o) n h s = record { accepted = λ _. h.2; declined = λ not. absurd (not h.0) }
+  second_opens (Err e) n h s = record { accepted = λ ok. absurd (not_both e h ok); declined = λ _. s }
 
 pub open_has_one_answer : {R K : Type 0} → OpenHasOneAnswer R K
 open_has_one_answer D k f key words hash bs r q a b = one_opening D k f key words hash bs r q a b

@@ -1,21 +1,23 @@
 -- A whole module: what check and find answer of it.
 use Rattle.std.specs.Prelude.{◌≡◌, ℕ, ◌-◌, cond, List, length, take, drop, Some, None, Ok, Err, Option, Result, ◌==◌}
 use Rattle.records.specs.declared.declines.Decline.{Decline}
+use Rattle.records.specs.declared.kind.RecordKind.{RecordKind}
 use Rattle.records.specs.declared.numbers.Words.{Words}
 use Rattle.records.specs.declared.records.TagRecord.{TagRecord}
 use Rattle.records.specs.declared.records.TareRecord.{TareRecord}
 use Rattle.records.specs.Declines.{number}
-use Rattle.records.specs.Kinds.{made_tag, made_tare, plate_words, tag_words}
-use Rattle.addresses.specs.Hashes.{fnv_words_lem}
-use Rattle.octets.specs.Codec.{byte_row, decoded, lawful_at}
-use Rattle.octets.specs.Kinds.{tag_in, tare_in}
+use Rattle.records.specs.Kinds.{kind_number, plate_words, tag_words}
+use Rattle.addresses.specs.declared.families.FamilyKind.{FamilyKind}
+use Rattle.addresses.specs.Hashes.{family_number, fnv_words_lem}
+use Rattle.octets.specs.Codec.{byte_row, lawful_at}
+use Rattle.octets.specs.Kinds.{tag_decoded, tare_decoded}
 use Rattle.rules.specs.Tables.{State, Sound, choice_at, used_in}
 use Rattle.trailers.specs.declared.layouts.Layout.{Layout}
 use Rattle.trailers.specs.Layouts.{numbers_of}
 use Rattle.trailers.specs.Trailers.{LawfulTrailer, numbers_in}
 use Rattle.modules.specs.declared.faults.Fault.{Fault}
-use Rattle.modules.specs.Checks.{Checks, table_of}
-use Rattle.modules.specs.Finds.{FirstMatch, Match, Meets, NoMatch}
+use Rattle.modules.specs.Checks.{Checks, table_over}
+use Rattle.lookup.specs.Finds.{FirstMatch, Match, Meets, NoMatch}
 
 -- the bytes of a module's cells: so many as the distance says, directly before the trailer
 abbrev pub cells_part_lem : List ℕ → List ℕ
@@ -24,13 +26,6 @@ cells_part_lem bs = take (numbers_in bs).distance (drop (length bs - 32 - (numbe
 -- the family with this number
 abbrev pub hash_by : ℕ → Words → ℕ
 hash_by f = cond (f == 1) fnv_words_lem (λ w. w.second)
-
--- the decoders of the two kinds
-abbrev pub tare_decoded : List ℕ → Option TareRecord
-tare_decoded = decoded 1 20 tare_in made_tare
-
-abbrev pub tag_decoded : List ℕ → Option TagRecord
-tag_decoded = decoded 2 15 tag_in made_tag
 
 -- the key words of a record
 abbrev pub words_of_tare : TareRecord → Words
@@ -41,7 +36,14 @@ words_of_tag r = tag_words r.tag
 
 -- the table in a module with this layout, by a decoder
 abbrev pub in_module : {R : Type 0} → (List ℕ → Option R) → Layout → List ℕ → State R
-in_module D l bs = table_of l.size l.count (byte_row D (cells_part_lem bs))
+in_module D l bs = table_over D l (cells_part_lem bs)
+
+-- what is read of a module with a lawful trailer: the kind and the family that it names, all its numbers, and the bytes of its cells
+pub record IsModule (bs : List ℕ) (k : RecordKind) (f : FamilyKind) (l : Layout) (cs : List ℕ) : Type 0 where
+  pub numbers : numbers_of l ≡ numbers_in bs
+  pub kind : kind_number k ≡ l.kind
+  pub family : family_number f ≡ l.family
+  pub cells : cs ≡ cells_part_lem bs
 
 -- a decline with this number
 abbrev pub DeclinedWith : {X : Type 0} → ℕ → Result X Decline → Type 0

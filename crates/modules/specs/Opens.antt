@@ -1,5 +1,5 @@
--- What the two calls of open answer.
-use Rattle.std.specs.Prelude.{◌≡◌, ℕ, ◌-◌, List, length, Ok, Option, Result}
+-- What open answers, in one call and in two.
+use Rattle.std.specs.Prelude.{◌≡◌, ℕ, ◌-◌, List, length, Ok, Err, Option, Result}
 use Rattle.records.specs.declared.numbers.Words.{Words}
 use Rattle.octets.specs.Codec.{lawful_at}
 use Rattle.rules.specs.Tables.{Sound}
@@ -52,3 +52,9 @@ pub record Smallest (o : Opened) : Type 0 where
 pub record SecondOpens {R K : Type 0} (D : List ℕ → Option R) (kind family : ℕ) (key : R → K) (words : K → Words) (hash : Words → ℕ) (bs : List ℕ) (o : Opened) : Type 0 where
   pub accepted : FirstOpens D kind family key words hash bs (Ok tt) → (l : Layout) → numbers_of l ≡ numbers_in bs → IsOpened bs o l
   pub declined : (FirstOpens D kind family key words hash bs (Ok tt) → ⊥) → Smallest o
+
+-- What open answers: it declines as the first call does, and gives what the second call gives.
+abbrev pub Opens : {R K : Type 0} → (List ℕ → Option R) → ℕ → ℕ → (R → K) → (K → Words) → (Words → ℕ) → List ℕ → Result Opened Fault → Type 0
+Opens D kind family key words hash bs (Err f) = FirstOpens D kind family key words hash bs (Err f)
+Opens D kind family key words hash bs (Ok o) =
+    FirstOpens D kind family key words hash bs (Ok tt) × OpensSound D key words hash bs × ((l : Layout) → numbers_of l ≡ numbers_in bs → IsOpened bs o l)

@@ -1,69 +1,48 @@
 // Check, and find in a module.
-ghost use Rattle.std.specs.Prelude.{◌≡◌, Ok, MatchOption};
-ghost use Rattle.octets.specs.Codec.{byte_row, decoded, lawful_at};
-ghost use Rattle.rules.specs.Tables.{choice_at, used_in};
-ghost use Rattle.modules.specs.Checks.{Checks, table_of};
-ghost use Rattle.modules.specs.Finds.{FirstMatch, Match, Meets, NoMatch};
-ghost use Rattle.modules.specs.Modules.{FindsCell, FindsRecord, ModuleChecks, ModuleIsSound, cells_part_lem, hash_by};
+ghost use Rattle.std.specs.Prelude.{◌≡◌, Ok};
+ghost use Rattle.addresses.specs.Hashes.{family_hash};
+ghost use Rattle.octets.specs.Codec.{byte_row};
+ghost use Rattle.rules.specs.Tables.{used_in};
+ghost use Rattle.lookup.specs.Finds.{Found, FoundCell, FoundRecord};
+ghost use Rattle.modules.specs.Modules.{FindsCell, FindsRecord, ModuleChecks, ModuleIsSound};
 
-use crate::checks::check_cells;
 use crate::faults::Fault;
-use crate::finds::{Hit, find_below};
-use addresses::families::{Fnv, Straight};
+use crate::module::Module;
+use lookup::finds::find_below;
+use lookup::hit::Hit;
 use octets::kinds::Coded;
 use records::declines::Decline;
+use records::kind::RecordKind;
 use records::kinds::Record;
 use records::numbers::Words;
 use records::records::{TagRecord, TareRecord};
-use trailers::layouts::Layout;
-use trailers::windows::Trailer;
 
-// The bytes of a module's cells: so many as the distance says, directly before the trailer.
-pub fn cells_part(bytes: &[u8]) -> &[u8]
-    ensures { result.now ≡ cells_part_lem bytes.now }
-{
-    let length = bytes.len();
-    let trailer = Trailer { bytes };
-    let distance = trailer.distance() as usize;
-    let start = length.saturating_sub(32).saturating_sub(distance);
-    let end = if length - start < distance {
-        length
-    } else {
-        start + distance
-    };
-    &bytes[start..end]
-}
-
-// The used cells, by the family that the trailer names.
-fn check_by_family<R: Coded>(cells: &[u8], layout: Layout) -> Result<(), Fault>
-    ensures { Checks (lawful_at (decoded R.Coded.kind R.Coded.end R.Coded.numbers_in R.Record.made) cells.now) R.Record.key_of R.Record.words_of (hash_by layout.family) (table_of layout.size layout.count (byte_row (decoded R.Coded.kind R.Coded.end R.Coded.numbers_in R.Record.made) cells.now)) result }
-{
-    if layout.family == 1 {
-        check_cells::<R, Fnv>(cells, layout, &Fnv)
-    } else {
-        check_cells::<R, Straight>(cells, layout, &Straight)
+impl Module<'_> {
+    // The first used cell whose record has these words, by the family that the trailer names.
+    fn first<R: Coded>(&self, words: Words) -> Option<Hit<R>>
+        ensures { Found (λ y. R.Record.words_of (R.Record.key_of y)) (byte_row R.Coded.record_in self.now.cells.bytes.now) (family_hash self.now.family) self.now.layout.size words (used_in self.now.layout.size) result }
+    {
+        find_below(
+            &self.cells,
+            self.layout.size,
+            &self.family,
+            words,
+            self.layout.used(),
+        )
     }
-}
 
-// The first used cell whose record has these words, by the family that the trailer names.
-fn find_by_family<R: Coded>(cells: &[u8], layout: Layout, words: Words) -> Option<Hit<R>>
-    ensures { MatchOption result (NoMatch (Match (λ y. R.Record.words_of (R.Record.key_of y)) (byte_row (decoded R.Coded.kind R.Coded.end R.Coded.numbers_in R.Record.made) cells.now) words (used_in layout.size)) (choice_at (hash_by layout.family) layout.size words) layout.size.settings.choices layout.size.settings.cells) (λ h. FirstMatch (Match (λ y. R.Record.words_of (R.Record.key_of y)) (byte_row (decoded R.Coded.kind R.Coded.end R.Coded.numbers_in R.Record.made) cells.now) words (used_in layout.size)) (choice_at (hash_by layout.family) layout.size words) layout.size.settings.choices layout.size.settings.cells h.cell × Meets (λ y. R.Record.words_of (R.Record.key_of y)) (byte_row (decoded R.Coded.kind R.Coded.end R.Coded.numbers_in R.Record.made) cells.now) words h.cell h.held) }
-{
-    let used = layout.used();
-    if layout.family == 1 {
-        find_below::<R, Fnv>(cells, layout.size, &Fnv, words, used)
-    } else {
-        find_below::<R, Straight>(cells, layout.size, &Straight, words, used)
+    // The same, of which only the cell is wanted.
+    fn first_cell<R: Coded>(&self, words: Words) -> Option<u32>
+        ensures { FoundCell (λ y. R.Record.words_of (R.Record.key_of y)) (byte_row R.Coded.record_in self.now.cells.bytes.now) (family_hash self.now.family) self.now.layout.size words (used_in self.now.layout.size) result }
+    {
+        Some(self.first::<R>(words)?.cell)
     }
-}
 
-// The same, of which only the cell is wanted.
-fn cell_by_family<R: Coded>(cells: &[u8], layout: Layout, words: Words) -> Option<u32>
-    ensures { MatchOption result (NoMatch (Match (λ y. R.Record.words_of (R.Record.key_of y)) (byte_row (decoded R.Coded.kind R.Coded.end R.Coded.numbers_in R.Record.made) cells.now) words (used_in layout.size)) (choice_at (hash_by layout.family) layout.size words) layout.size.settings.choices layout.size.settings.cells) (λ c. FirstMatch (Match (λ y. R.Record.words_of (R.Record.key_of y)) (byte_row (decoded R.Coded.kind R.Coded.end R.Coded.numbers_in R.Record.made) cells.now) words (used_in layout.size)) (choice_at (hash_by layout.family) layout.size words) layout.size.settings.choices layout.size.settings.cells c) }
-{
-    match find_by_family::<R>(cells, layout, words) {
-        Some(hit) => Some(hit.cell),
-        None => None,
+    // The same, of which only the record is wanted.
+    fn first_record<R: Coded>(&self, words: Words) -> Option<R>
+        ensures { FoundRecord (λ y. R.Record.words_of (R.Record.key_of y)) (byte_row R.Coded.record_in self.now.cells.bytes.now) (family_hash self.now.family) self.now.layout.size words (used_in self.now.layout.size) result }
+    {
+        Some(self.first::<R>(words)?.held)
     }
 }
 
@@ -72,20 +51,10 @@ pub fn check(bytes: &[u8]) -> Result<(), Fault>
     ensures answer { ModuleChecks bytes.now result }
     ensures sound { result ≡ Ok tt → ModuleIsSound bytes.now }
 {
-    let trailer = Trailer { bytes };
-    match trailer.read() {
-        Ok(layout) => {
-            let cells = cells_part(bytes);
-            if layout.kind == 1 {
-                check_by_family::<TareRecord>(cells, layout)
-            } else {
-                check_by_family::<TagRecord>(cells, layout)
-            }
-        }
-        Err(decline) => Err(Fault {
-            decline,
-            cell: None,
-        }),
+    let module = Module::read(bytes)?;
+    match module.kind {
+        RecordKind::Tare => module.check::<TareRecord, _>(&module.family),
+        RecordKind::Tag => module.check::<TagRecord, _>(&module.family),
     }
 }
 
@@ -93,30 +62,16 @@ pub fn check(bytes: &[u8]) -> Result<(), Fault>
 pub fn find_cell(bytes: &[u8], words: Words) -> Result<Option<u32>, Decline>
     ensures { FindsCell bytes.now words result }
 {
-    let trailer = Trailer { bytes };
-    match trailer.read() {
-        Ok(layout) => {
-            let cells = cells_part(bytes);
-            if layout.kind == 1 {
-                Ok(cell_by_family::<TareRecord>(cells, layout, words))
-            } else {
-                Ok(cell_by_family::<TagRecord>(cells, layout, words))
-            }
-        }
-        Err(decline) => Err(decline),
-    }
+    let module = Module::read(bytes)?;
+    Ok(match module.kind {
+        RecordKind::Tare => module.first_cell::<TareRecord>(words),
+        RecordKind::Tag => module.first_cell::<TagRecord>(words),
+    })
 }
 
 // The record of a kind with this key in a module, the first by choice and then by cell.
 pub fn find<R: Coded>(bytes: &[u8], key: R::Key) -> Result<Option<R>, Decline>
-    ensures { FindsRecord (decoded R.Coded.kind R.Coded.end R.Coded.numbers_in R.Record.made) (λ y. R.Record.words_of (R.Record.key_of y)) bytes.now (R.Record.words_of key) result }
+    ensures { FindsRecord R.Coded.record_in (λ y. R.Record.words_of (R.Record.key_of y)) bytes.now (R.Record.words_of key) result }
 {
-    let trailer = Trailer { bytes };
-    match trailer.read() {
-        Ok(layout) => match find_by_family::<R>(cells_part(bytes), layout, R::words(key)) {
-            Some(hit) => Ok(Some(hit.held)),
-            None => Ok(None),
-        },
-        Err(decline) => Err(decline),
-    }
+    Ok(Module::read(bytes)?.first_record(R::words(key)))
 }

@@ -4,7 +4,7 @@
 pub mod calls;
 pub mod checks;
 pub mod faults;
-pub mod finds;
 pub mod laws;
+pub mod module;
 pub mod opens;
 pub mod parts;

@@ -1,7 +1,7 @@
 // Parts of a module: which of its bytes are its cells, and a write to one of them.
 ghost use Rattle.std.specs.Prelude.{◌≡◌, ◌-◌, ◌≤◌, ◌++◌, length, take, drop};
 ghost use Rattle.stores.specs.Cells.{asked, numbered, write_of};
-ghost use Rattle.octets.specs.Codec.{byte_row, bytes_after, decoded, encoded};
+ghost use Rattle.octets.specs.Codec.{byte_row, bytes_after};
 ghost use Rattle.modules.specs.Parts.{NewPart, part_of};
 
 use octets::kinds::Coded;
@@ -11,7 +11,7 @@ use records::kinds::Record;
 use stores::cells::Cell;
 use stores::store::asked_cell;
 
-// The bytes from `start` up to `end`.
+// The bytes from `start` up to `end`. It is no `Range`, which is not `Copy`.
 #[derive(Clone, Copy)]
 pub struct Part {
     pub start: usize,
@@ -23,10 +23,7 @@ pub struct Part {
 pub fn new_part(length: usize) -> Part
     ensures { NewPart «length» result }
 {
-    if length < 32 {
-        return Part { start: 0, end: 0 };
-    }
-    if length > 2_147_483_648 {
+    if !(32..=2_147_483_648).contains(&length) {
         return Part { start: 0, end: 0 };
     }
     let end = length - 32;
@@ -44,16 +41,12 @@ pub fn write_cell<R: Coded>(
     at: u64,
     cell: &Cell<R::Numbers>,
 ) -> Result<(), Decline>
-    ensures answer { numbered result ≡ write_of (asked R.Record.made cell.now) (byte_row (decoded R.Coded.kind R.Coded.end R.Coded.numbers_in R.Record.made) (part_of bytes.old part)) at }
-    ensures inside { part.start ≤ part.end → part.end ≤ length bytes.old → bytes.new ≡ take part.start bytes.old ++ (bytes_after (encoded R.Coded.kind R.Coded.fields R.Record.numbers_of) (asked R.Record.made cell.now) (part_of bytes.old part) at ++ drop part.end bytes.old) }
+    ensures answer { numbered result ≡ write_of (asked R.Record.made cell.now) (byte_row R.Coded.record_in (part_of bytes.old part)) at }
+    ensures inside { part.start ≤ part.end → part.end ≤ length bytes.old → bytes.new ≡ take part.start bytes.old ++ (bytes_after R.Coded.bytes_of (asked R.Record.made cell.now) (part_of bytes.old part) at ++ drop part.end bytes.old) }
     ensures outside { ((part.start ≤ part.end) × (part.end ≤ length bytes.old) → ⊥) → bytes.new ≡ bytes.old }
 {
     let Part { start, end } = part;
-    if start > end {
-        let _ = asked_cell::<R>(cell)?;
-        return Err(Decline::NoSuchCell);
-    }
-    if end > bytes.len() {
+    if start > end || end > bytes.len() {
         let _ = asked_cell::<R>(cell)?;
         return Err(Decline::NoSuchCell);
     }

@@ -10,6 +10,7 @@ use addresses::sizes::Size;
 use records::declines::Decline;
 
 // The numbers of a table: its record kind and hash family, its size, its count of records, and the length of its store.
+// Kind and family are numbers, and no enums, since `close` is to decline those that there are none of.
 #[derive(Clone, Copy)]
 pub struct TableNumbers {
     pub kind: u8,
@@ -23,45 +24,21 @@ pub struct TableNumbers {
 fn trailer_bytes(layout: Layout) -> [u8; 32]
     ensures { result ≡ trailer_of (numbers_of layout) }
 {
-    let d = layout.distance.to_be_bytes();
-    let n = layout.count.to_be_bytes();
     let size = layout.size;
     let settings = size.settings;
-    let j = (size.j as u16).to_be_bytes();
-    [
-        d[0],
-        d[1],
-        d[2],
-        d[3],
-        layout.kind,
-        layout.family,
-        settings.t as u8,
-        settings.cells as u8,
-        settings.choices as u8,
-        settings.start as u8,
-        size.x as u8,
-        settings.load as u8,
-        j[0],
-        j[1],
-        n[0],
-        n[1],
-        n[2],
-        n[3],
-        0,
-        0,
-        0,
-        0,
-        0,
-        0,
-        0,
-        0,
-        0,
-        0,
-        0,
-        0,
-        0,
-        0,
-    ]
+    let mut bytes = [0; 32];
+    bytes[0..4].copy_from_slice(&layout.distance.to_be_bytes());
+    bytes[4] = layout.kind;
+    bytes[5] = layout.family;
+    bytes[6] = settings.t as u8;
+    bytes[7] = settings.cells as u8;
+    bytes[8] = settings.choices as u8;
+    bytes[9] = settings.start as u8;
+    bytes[10] = size.x as u8;
+    bytes[11] = settings.load as u8;
+    bytes[12..14].copy_from_slice(&(size.j as u16).to_be_bytes());
+    bytes[14..18].copy_from_slice(&layout.count.to_be_bytes());
+    bytes
 }
 
 // Writes the last 32 bytes of a module and no others.
@@ -79,15 +56,14 @@ pub fn close(bytes: &mut [u8], table: TableNumbers) -> Result<(), Decline>
     ensures answer { TakenIf (Lawful (length bytes.old) (closing table)) 14 (λ _. Unit {0}) result }
     ensures bytes { Closed bytes.old table result bytes.new }
 {
-    // more cells than fit before the trailer of the longest module
-    if table.cells > 67_108_863 {
+    let Ok(distance) = u32::try_from(table.cells.saturating_mul(32)) else {
         return Err(Decline::BadTrailer);
-    }
+    };
     let layout = Layout {
         kind: table.kind,
         family: table.family,
         size: table.size,
-        distance: (32 * table.cells) as u32,
+        distance,
         count: table.count,
     };
     if !layout.fits(bytes.len()) {

@@ -4,10 +4,13 @@ ghost use Rattle.addresses.specs.Sized.{buckets_in};
 ghost use Rattle.trailers.specs.Layouts.{numbers_of};
 ghost use Rattle.trailers.specs.Trailers.{Placed};
 
+use addresses::families::FamilyKind;
 use addresses::sizes::Size;
+use records::kind::RecordKind;
 
 // The numbers of the record kind and of the hash family, the table's size, the bytes from the first cell to the trailer, and the
 // count of records.
+// Kind and family are numbers, and no enums, since `fits` is to answer of any.
 #[derive(Clone, Copy)]
 pub struct Layout {
     pub kind: u8,
@@ -22,7 +25,7 @@ impl Layout {
     pub fn used(self) -> u32
         ensures { result ≡ buckets_in self.size * self.size.settings.cells }
     {
-        self.size.buckets() * self.size.settings.cells
+        self.size.used()
     }
 
     // The cells that the module has.
@@ -36,30 +39,11 @@ impl Layout {
     pub fn fits(self, length: usize) -> bool
         ensures { MatchBool result (Placed «length» (numbers_of self)) (Placed «length» (numbers_of self) → ⊥) }
     {
-        if length < 32 {
-            return false;
-        }
-        if length > 2_147_483_648 {
-            return false;
-        }
-        if self.kind < 1 {
-            return false;
-        }
-        if self.kind > 2 {
-            return false;
-        }
-        if self.family < 1 {
-            return false;
-        }
-        if self.family > 2 {
-            return false;
-        }
-        if self.distance % 32 != 0 {
-            return false;
-        }
-        if u64::from(self.distance) < 32 * u64::from(self.used()) {
-            return false;
-        }
-        self.distance as usize <= length - 32
+        (32..=2_147_483_648).contains(&length)
+            && RecordKind::try_from(self.kind).is_ok()
+            && FamilyKind::try_from(self.family).is_ok()
+            && self.distance % 32 == 0
+            && u64::from(self.distance) >= 32 * u64::from(self.used())
+            && self.distance as usize <= length - 32
     }
 }

@@ -1,14 +1,20 @@
-use Rattle.modules.proofs.Whole.{tares_checked, tags_checked}
+use Rattle.modules.proofs.Whole.{tares_checked, tares_sound, tags_checked, tags_sound}
 use Rattle.modules.proofs.calls.check.Goals as goal
 
-pub returns-then-layout-eq1 : goal.returns-then-layout-eq1
-returns-then-layout-eq1 c =
-    let t = c.in-Ok.ensures in
-    let r = tares_checked c.args.bytes.now c.cells_part-cells.result.now c.in-Ok.layout c.check_by_family.result t.0 t.1 c.cells_part-cells.ensures c.if-layout-eq1.true c.check_by_family.ensures in
-    record { answer = r.0; sound = r.1 }
+pub returns-in-Tare : goal.returns-in-Tare
+returns-in-Tare c =
+    let m = c.in_ok-module.module in
+    let is = c.in_ok-module.ensures in
+    record {
+      answer = tares_checked c.args.bytes.now m.kind m.family m.layout m.cells.bytes.now is.0 is.1 c.check.result c.in-Tare.is c.check.ensures;
+      sound = tares_sound c.args.bytes.now m.kind m.family m.layout m.cells.bytes.now is.0 is.1 c.check.result c.in-Tare.is c.check.ensures;
+    }
 
-pub returns-else-layout-eq1 : goal.returns-else-layout-eq1
-returns-else-layout-eq1 c =
-    let t = c.in-Ok.ensures in
-    let r = tags_checked c.args.bytes.now c.cells_part-cells.result.now c.in-Ok.layout c.check_by_family-else-layout-eq1.result t.0 t.1 c.cells_part-cells.ensures c.if-layout-eq1.false c.check_by_family-else-layout-eq1.ensures in
-    record { answer = r.0; sound = r.1 }
+pub returns-in-Tag : goal.returns-in-Tag
+returns-in-Tag c =
+    let m = c.in_ok-module.module in
+    let is = c.in_ok-module.ensures in
+    record {
+      answer = tags_checked c.args.bytes.now m.kind m.family m.layout m.cells.bytes.now is.0 is.1 c.check-in-Tag.result c.in-Tag.is c.check-in-Tag.ensures;
+      sound = tags_sound c.args.bytes.now m.kind m.family m.layout m.cells.bytes.now is.0 is.1 c.check-in-Tag.result c.in-Tag.is c.check-in-Tag.ensures;
+    }

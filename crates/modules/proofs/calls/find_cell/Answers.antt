@@ -1,12 +1,14 @@
 use Rattle.modules.proofs.Whole.{tare_found, tag_found}
 use Rattle.modules.proofs.calls.find_cell.Goals as goal
 
-pub returns-then-layout-eq1 : goal.returns-then-layout-eq1
-returns-then-layout-eq1 c =
-    let t = c.in-Ok.ensures in
-    tare_found c.args.bytes.now c.cells_part-cells.result.now c.in-Ok.layout c.args.words t.0 t.1 c.cells_part-cells.ensures c.cell_by_family.result c.if-layout-eq1.true c.cell_by_family.ensures
+pub returns-in-Tare : goal.returns-in-Tare
+returns-in-Tare c =
+    let m = c.in_ok-module.module in
+    let is = c.in_ok-module.ensures in
+    tare_found c.args.bytes.now m.kind m.family m.layout m.cells.bytes.now is.0 is.1 c.args.words c.first_cell.result c.in-Tare.is c.first_cell.ensures
 
-pub returns-else-layout-eq1 : goal.returns-else-layout-eq1
-returns-else-layout-eq1 c =
-    let t = c.in-Ok.ensures in
-    tag_found c.args.bytes.now c.cells_part-cells.result.now c.in-Ok.layout c.args.words t.0 t.1 c.cells_part-cells.ensures c.cell_by_family-else-layout-eq1.result c.if-layout-eq1.false c.cell_by_family-else-layout-eq1.ensures
+pub returns-in-Tag : goal.returns-in-Tag
+returns-in-Tag c =
+    let m = c.in_ok-module.module in
+    let is = c.in_ok-module.ensures in
+    tag_found c.args.bytes.now m.kind m.family m.layout m.cells.bytes.now is.0 is.1 c.args.words c.first_cell-in-Tag.result c.in-Tag.is c.first_cell-in-Tag.ensures

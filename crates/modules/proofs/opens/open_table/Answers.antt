@@ -1,23 +1,11 @@
-use Rattle.std.proofs.Common.{refl}
-use Rattle.octets.specs.Codec.{decoded}
-use Rattle.modules.proofs.Opening.{is_opened, not_both}
+use Rattle.std.proofs.Common.{sym, subst}
+use Rattle.modules.specs.Opens.{SecondOpens}
+use Rattle.modules.proofs.Opening.{second_opens}
 use Rattle.modules.proofs.opens.open_table.Goals as goal
 
-pub returns-in-Ok-read : goal.returns-in-Ok-read
-returns-in-Ok-read g c =
-    let t = c.in-Ok-read.ensures in
-    record {
-      accepted = λ _ l e. is_opened c.args.bytes.now _ c.in-Ok-read.layout t.0 t.1 refl refl refl refl l e;
-      declined = λ not. absurd (not c.in-Ok.ensures.answer);
-    }
-
-pub returns-in-Err : goal.returns-in-Err
-returns-in-Err g c =
-    let D = decoded g.R.Coded.kind g.R.Coded.end g.R.Coded.numbers_in g.R.Record.made in
-    record {
-      accepted = λ ok.
-          absurd
-          (not_both D g.R.Coded.kind (g.F.Family.number_of c.args.family.now) g.R.Record.key_of g.R.Record.words_of (g.F.Family.hash_of c.args.family.now) c.args.bytes.now
-          c.in-Err.field-0 c.in-Err.ensures.answer ok);
-      declined = λ _. c.nothing-in-Err.ensures;
-    }
+pub returns : goal.returns
+returns g c =
+    let hash = g.F.Family.hash_of c.args.family.now in
+    let family = g.F.Family.number_of c.args.family.now in
+    subst (λ o. SecondOpens g.R.Coded.record_in g.R.Coded.kind family g.R.Record.key_of g.R.Record.words_of hash c.args.bytes.now o) (sym c.unwrap_or.ensures)
+    (second_opens g.R.Coded.record_in g.R.Coded.kind family g.R.Record.key_of g.R.Record.words_of hash c.args.bytes.now c.open.result c.nothing.result c.open.ensures c.nothing.ensures)

@@ -1,7 +1,7 @@
 use Rattle.std.proofs.Common.{◌≡◌, ◌+◌, ◌-◌, ◌≤◌, ◌++◌, length, take, drop, ap, ◌∙◌, arith}
 use Rattle.std.proofs.lemmas.List.{drop-drop}
 use Rattle.stores.specs.Cells.{asked, write_of}
-use Rattle.octets.specs.Codec.{byte_row, bytes_after, decoded, encoded}
+use Rattle.octets.specs.Codec.{byte_row, bytes_after}
 use Rattle.modules.specs.Parts.{part_of}
 use Rattle.modules.proofs.Opening.{part_is}
 use Rattle.modules.proofs.parts.write_cell.Goals as goal
@@ -12,8 +12,8 @@ returns g c =
     let p = c.args.part in
     let at = c.args.at in
     let o = asked g.R.Record.made c.args.cell.now in
-    let D = decoded g.R.Coded.kind g.R.Coded.end g.R.Coded.numbers_in g.R.Record.made in
-    let E = encoded g.R.Coded.kind g.R.Coded.fields g.R.Record.numbers_of in
+    let D = g.R.Coded.record_in in
+    let E = g.R.Coded.bytes_of in
     let a : p.start ≤ p.end = omega arith in
     let b : p.end ≤ length bs = omega arith in
     let part = part_is bs p a b in
