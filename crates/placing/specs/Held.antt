@@ -1,16 +1,10 @@
--- What lies in cells, by its key words, and a placement with other cells.
-use Rattle.std.specs.Prelude.{ℕ, List, Some, None, Option}
-use Rattle.stores.specs.declared.cells.Cell.{Cell}
-use Rattle.stores.specs.declared.cells.Cell.TheVariants.{Empty, Holds}
+-- A placement with other cells, and where a cell leads by what lies in it.
+use Rattle.std.specs.Prelude.{◌≡◌, ℕ, List, Some, None, Option}
+use Rattle.stores.specs.Makings.{Place, Raw}
 use Rattle.rules.specs.Placements.{Placement}
 
--- g of the record in a cell, if one lies there
-abbrev pub mapped : {R X : Type 0} → (R → X) → Cell R → Option X
-mapped g Empty = None
-mapped g (Holds r) = Some (g r)
-
 -- the placement with other cells
-abbrev pub with_held : {R : Type 0} → Placement R → List (Cell R) → Placement R
+abbrev pub with_held : {R : Type 0} → Placement R → List (Option R) → Placement R
 with_held f cs = record {
   size = f.size;
   cells = f.cells;
@@ -21,10 +15,16 @@ with_held f cs = record {
   lies = f.lies;
 }
 
+-- nothing has changed but what lies in the cells, and what these are made of
+pub record OnlyCells {P R N : Type 0} (placed : P → Placement R) (at : P → Place R) (coded : P → ℕ → Option R → Raw N) (old new : P) : Type 0 where
+  pub placement : placed new ≡ with_held (placed old) (placed new).held
+  pub place : at new ≡ at old
+  pub code : coded new ≡ coded old
+
 -- where a cell leads by a choice: its own bucket p if nothing lies in it
-abbrev pub led : {R : Type 0} → (R → ℕ) → ℕ → Cell R → ℕ
-led g p Empty = p
-led g p (Holds r) = g r
+abbrev pub led : {R : Type 0} → (R → ℕ) → ℕ → Option R → ℕ
+led g p None = p
+led g p (Some r) = g r
 
 -- the same, by the hash word of what lies there
 abbrev pub led_by : (ℕ → ℕ) → ℕ → Option ℕ → ℕ

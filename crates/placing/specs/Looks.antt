@@ -1,14 +1,13 @@
 -- What is seen in one bucket.
 use Rattle.std.specs.Prelude.{◌≡◌, ℕ, ◌+◌, ◌*◌, ◌<◌, Some, None, Option, slice_index_or}
 use Rattle.records.specs.declared.numbers.Words.{Words}
-use Rattle.stores.specs.declared.cells.Cell.TheVariants.{Empty, Holds}
 use Rattle.rules.specs.Placements.{Placement, LowestEmpty, vacant}
 use Rattle.placing.specs.declared.looks.Gap.{Gap}
 
 module _ {R : Type 0} (f : Placement R) where
   -- the record in cell c has the key words w
   abbrev pub HasWords : ℕ → Words → Type 0
-  HasWords c w = (r : R) × (slice_index_or f.held c Empty ≡ Holds r) × (f.words r ≡ w)
+  HasWords c w = (r : R) × (slice_index_or f.held c None ≡ Some r) × (f.words r ≡ w)
 
   -- no record in bucket p has them
   abbrev pub NotIn : ℕ → Words → Type 0
@@ -31,3 +30,7 @@ module _ {R : Type 0} (f : Placement R) where
     pub room : (c : ℕ) → answer ≡ Some c → LowestEmpty f p c
     pub some : (c : ℕ) → answer ≡ Some c → 0 < vacant f p
     pub below : (c : ℕ) → answer ≡ Some c → c < f.size * f.cells
+
+  -- the own buckets of a hash word are full
+  abbrev pub OwnFull : ℕ → Type 0
+  OwnFull v = (i : ℕ) → i < f.choices → vacant f (f.lies v i) ≡ 0

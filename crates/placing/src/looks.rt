@@ -1,16 +1,15 @@
-// Looking at one bucket: for a key, for room, for where its records lead. These serve the search and the table, and want a lawful
-// placement and a bucket of it.
-ghost use Rattle.std.specs.Prelude.{◌≡◌, ℕ, ◌+◌, ◌*◌, ◌<◌, length, if◌then◌else◌, nat_eq, slice_index_or};
-ghost use Rattle.stores.specs.declared.cells.Cell.TheVariants.{Empty};
-ghost use Rattle.rules.specs.Placements.{Lawful, word};
-ghost use Rattle.placing.specs.Held.{led, led_by, mapped};
+// Looking at one bucket: for a key, for room, for where its records lead. These serve the search and the table, and want
+// a bucket that there is.
+ghost use Rattle.std.specs.Prelude.{option_map, ◌≡◌, ℕ, ◌+◌, ◌*◌, ◌<◌, length, if◌then◌else◌, nat_eq, slice_index_or, None};
+ghost use Rattle.rules.specs.Placements.{word};
+ghost use Rattle.placing.specs.Held.{led, led_by};
 ghost use Rattle.placing.specs.Looks.{Looked, Roomy};
 
 use crate::placing::Placing;
 use records::kinds::Record;
 use records::numbers::Words;
 
-// How many cells of a bucket are empty, and the lowest of them.
+// How many cells of a bucket are empty, and the lowest of them. No Option for none: the counts of buckets are compared.
 #[derive(Clone, Copy)]
 pub struct Gap {
     pub count: u32,
@@ -33,8 +32,7 @@ impl Gap {
 
 // The room in a bucket; nothing where the key with these words lies in it.
 pub fn look<R: Record, P: Placing<R>>(p: &P, bucket: u32, words: &Words) -> Option<Gap>
-    requires lawful { Lawful (P.Placing.placement p.now) }
-    requires inside { bucket < (P.Placing.placement p.now).size }
+    requires { bucket < (P.Placing.placement p.now).size }
     ensures { Looked (P.Placing.placement p.now) bucket words.now result }
 {
     let slots = p.slots();
@@ -42,11 +40,8 @@ pub fn look<R: Record, P: Placing<R>>(p: &P, bucket: u32, words: &Words) -> Opti
     for slot in 0..slots {
         let cell = bucket * slots + slot;
         match p.words_at(cell) {
-            Some(found) => {
-                if found.same(*words) {
-                    return None;
-                }
-            }
+            Some(found) if found == *words => return None,
+            Some(_) => {}
             None => gap = gap.with(cell),
         }
     }
@@ -55,11 +50,11 @@ pub fn look<R: Record, P: Placing<R>>(p: &P, bucket: u32, words: &Words) -> Opti
 
 // The lowest empty cell of a bucket, if it has one.
 pub fn room<R: Record, P: Placing<R>>(p: &P, bucket: u32) -> Option<u32>
-    requires lawful { Lawful (P.Placing.placement p.now) }
-    requires inside { bucket < (P.Placing.placement p.now).size }
+    requires { bucket < (P.Placing.placement p.now).size }
     ensures { Roomy (P.Placing.placement p.now) bucket result }
 {
     let slots = p.slots();
+    // no chain, since its closure would have to be told that each cell is there
     for slot in 0..slots {
         let cell = bucket * slots + slot;
         if p.words_at(cell).is_none() {
@@ -72,20 +67,14 @@ pub fn room<R: Record, P: Placing<R>>(p: &P, bucket: u32) -> Option<u32>
 // The hash word of the record in a cell, if one lies there.
 pub fn word_at<R: Record, P: Placing<R>>(p: &P, cell: u32) -> Option<u64>
     requires { cell < length (P.Placing.placement p.now).held }
-    ensures { result ≡ mapped (word (P.Placing.placement p.now)) (slice_index_or (P.Placing.placement p.now).held cell Empty) }
+    ensures { result ≡ option_map (word (P.Placing.placement p.now)) (slice_index_or (P.Placing.placement p.now).held cell None) }
 {
-    match p.words_at(cell) {
-        Some(words) => Some(p.hash(words)),
-        None => None,
-    }
+    p.words_at(cell).map(|words| p.hash(words))
 }
 
 // Where a choice of a hash word leads; to the bucket itself where there is none.
 pub fn leads<R: Record, P: Placing<R>>(p: &P, bucket: u32, found: Option<u64>, choice: u32) -> u32
     ensures { result ≡ led_by (λ v. (P.Placing.placement p.now).lies v choice) bucket found }
 {
-    match found {
-        Some(word) => p.bucket(word, choice),
-        None => bucket,
-    }
+    found.map_or(bucket, |word| p.bucket(word, choice))
 }

@@ -1,10 +1,8 @@
 // What placing a record asks of the cells that records lie in: a table's own, or a plan of them.
-ghost use Rattle.std.specs.Prelude.{◌≡◌, ℕ, ◌<◌, length, ◌≢◌, slice_index_or, slice_set};
-ghost use Rattle.stores.specs.declared.cells.Cell.{Cell};
-ghost use Rattle.stores.specs.declared.cells.Cell.TheVariants.{Empty};
+ghost use Rattle.std.specs.Prelude.{option_map, ◌≡◌, ℕ, ◌<◌, length, ◌≢◌, slice_index_or, slice_set, None, Option};
 ghost use Rattle.stores.specs.Makings.{Place, Raw};
-ghost use Rattle.rules.specs.Placements.{Placement};
-ghost use Rattle.placing.specs.Held.{mapped, with_held};
+ghost use Rattle.rules.specs.Placements.{Lawful, Placement};
+ghost use Rattle.placing.specs.Held.{with_held};
 
 use records::kinds::Record;
 use records::numbers::Words;
@@ -20,7 +18,7 @@ pub trait Placing<R: Record> {
     ghost raw: { Self → ℕ → Raw R.Numbers };
 
     // what a write makes cell k of
-    ghost code: { Self → ℕ → Cell R → Raw R.Numbers };
+    ghost code: { Self → ℕ → Option R → Raw R.Numbers };
 
     // How many buckets there are.
     fn buckets(&self) -> u32
@@ -37,7 +35,7 @@ pub trait Placing<R: Record> {
     // The key words of the record in a cell, if one lies there.
     fn words_at(&self, cell: u32) -> Option<Words>
         requires { cell < length (placement self.now).held }
-        ensures { result ≡ mapped (placement self.now).words (slice_index_or (placement self.now).held cell Empty) };
+        ensures { result ≡ option_map (placement self.now).words (slice_index_or (placement self.now).held cell None) };
 
     // The hash word of a key.
     fn hash(&self, words: Words) -> u64
@@ -51,9 +49,12 @@ pub trait Placing<R: Record> {
     fn copy(&mut self, from: u32, to: u32)
         requires from { from < length (placement self.old).held }
         requires to { to < length (placement self.old).held }
-        ensures cells { placement self.new ≡ with_held (placement self.old) (slice_set (placement self.old).held to (slice_index_or (placement self.old).held from Empty)) }
+        ensures cells { placement self.new ≡ with_held (placement self.old) (slice_set (placement self.old).held to (slice_index_or (placement self.old).held from None)) }
         ensures place { place self.new ≡ place self.old }
         ensures others { (k : ℕ) → (k ≢ to) → raw self.new k ≡ raw self.old k }
-        ensures made { raw self.new to ≡ code self.old to (slice_index_or (placement self.old).held from Empty) }
+        ensures made { raw self.new to ≡ code self.old to (slice_index_or (placement self.old).held from None) }
         ensures codes { code self.new ≡ code self.old };
+
+    // its buckets and their cells are there, and its choices lie in them
+    ghost lawful: { (s : Self) → Lawful (placement s) };
 }

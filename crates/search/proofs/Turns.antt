@@ -2,8 +2,8 @@
 use Rattle.std.proofs.Common.{◌≡◌, ℕ, suc, ◌+◌, ◌<◌, ◌≤◌, false, ◌≢◌, List, get_or, sym, ap, subst, ⊎_elim, arith}
 use Rattle.std.proofs.lemmas.Bool.{cases_lt}
 use Rattle.search.specs.Nets.{Net}
-use Rattle.search.specs.Marks.{Marks, Lined, Started, Seeded}
-use Rattle.search.specs.Searches.{Closed, Layered}
+use Rattle.search.specs.Marks.{Marks, Lined, Started}
+use Rattle.search.specs.Searches.{Layered}
 use Rattle.search.proofs.Firsts.{Cover}
 use Rattle.search.proofs.Depths.{member, member_in, member_out}
 
@@ -21,18 +21,6 @@ pub record Bfs (n : Net) (start : ℕ → ℕ) (came queue : List ℕ) (head tai
 -- edges lead to buckets that there are
 abbrev pub Within : Net → Type 0
 Within n = (p s i : ℕ) → p < n.size → s < n.cells → i < n.choices → n.next p s i < n.size
-
-pub bfs_none : (n : Net) (start : ℕ → ℕ) (came queue : List ℕ) (tail : ℕ) → Seeded n start came queue n.choices tail → Bfs n start came queue 0 tail 0 0
-bfs_none n start came queue tail st = record {
-  depth = λ _. 0;
-  marks = st.marks;
-  lined = st.lined;
-  started = st.started;
-  near = λ h j l. omega arith;
-  done = λ i l s w sl wl. absurd (omega arith);
-  rows = λ s w sl wl. absurd (omega arith);
-  row = λ w wl. absurd (omega arith);
-}
 
 module _ (n : Net) (start : ℕ → ℕ) (came queue : List ℕ) (head tail slot way : ℕ) (b : Bfs n start came queue head tail slot way) where
   pub bfs_row : n.choices ≤ way → Bfs n start came queue head tail (slot + 1) 0
@@ -91,16 +79,6 @@ module _ (n : Net) (start : ℕ → ℕ) (came queue : List ℕ) (head tail slot
       let a = b.near ht k.0 k.1 in
       let e = ap b.depth k.2 in
       bfs_edge (h, omega arith)
-
-  -- all is done
-  pub bfs_closed : tail ≤ head → Closed n start came
-  bfs_closed th = record {
-    starts = λ k l. (b.started k l).0;
-    next = λ p s w pn h sl wl.
-        let k = b.lined.kept p pn h in
-        subst (λ y. get_or came (n.next y s w) 0 ≢ 0) k.2 (b.done k.0 (omega (arith, k.1)) s w sl wl).0;
-    shut = λ p pn h. let k = b.lined.kept p pn h in subst (λ y. n.room y ≡ false) k.2 (b.lined.shut k.0 k.1);
-  }
 
   -- what lies less deep than the queue's next but one layer
   pub layers : Within n → ((k : ℕ) → k < n.choices → start k < n.size) → head < tail → Layered n start (suc (b.depth (get_or queue head 0)))

@@ -1,3 +1,4 @@
 pub mod Nets
 pub mod Marks
 pub mod Searches
+pub mod Spaces

@@ -1,6 +1,5 @@
 -- The buckets of a placement as a graph: from each, its records lead to their own buckets.
-use Rattle.std.specs.Prelude.{◌≡◌, ℕ, zero, suc, ◌+◌, ◌*◌, ◌<◌, Bool, List, get_or, nat_lt, slice_index, slice_index_or}
-use Rattle.stores.specs.declared.cells.Cell.TheVariants.{Empty}
+use Rattle.std.specs.Prelude.{◌≡◌, ℕ, zero, suc, ◌+◌, ◌*◌, ◌<◌, Bool, List, get_or, nat_lt, slice_index, slice_index_or, None}
 use Rattle.rules.specs.Placements.{Placement, vacant, word}
 use Rattle.placing.specs.Held.{led}
 
@@ -18,7 +17,7 @@ net_of f = record {
   size = f.size;
   cells = f.cells;
   choices = f.choices;
-  next = λ p s i. led (λ r. f.lies (word f r) i) p (slice_index_or f.held (p * f.cells + s) Empty);
+  next = λ p s i. led (λ r. f.lies (word f r) i) p (slice_index_or f.held (p * f.cells + s) None);
   room = λ p. nat_lt 0 (vacant f p);
 }
 

@@ -3,3 +3,4 @@
 
 pub mod found;
 pub mod search;
+pub mod spaces;

@@ -1,25 +1,27 @@
-// The search for the nearest bucket with room, over any placing. It serves the walk that makes room, and wants a lawful placement,
-// working spaces that are long enough, and a key whose own buckets are full.
-ghost use Rattle.std.specs.Prelude.{◌≡◌, ℕ, ◌<◌, ◌≤◌, length, slice_index};
-ghost use Rattle.rules.specs.Placements.{Lawful, vacant};
+// The search for the nearest bucket with room, over any placing. It serves the walk that makes room, and wants working spaces
+// that are long enough, and a key whose own buckets are full.
+ghost use Rattle.placing.specs.Looks.{OwnFull};
 ghost use Rattle.search.specs.Marks.{Seeded};
 ghost use Rattle.search.specs.Nets.{net_of};
 ghost use Rattle.search.specs.Searches.{Searched};
+ghost use Rattle.search.specs.Spaces.{Lent, Long};
 
 use crate::found::Found;
+use crate::spaces::Spaces;
 use placing::looks::{leads, room, word_at};
 use placing::placing::Placing;
 use records::kinds::Record;
 
-// Marks each own bucket and puts it into the queue, once: how many the queue then holds.
-fn seed<R: Record, P: Placing<R>>(p: &P, word: u64, queue: &mut [u32], came: &mut [u32]) -> u32
-    requires lawful { Lawful (P.Placing.placement p.now) }
-    requires queue { (P.Placing.placement p.now).size ≤ length queue.old }
-    requires came { (P.Placing.placement p.now).size ≤ length came.old }
-    requires clear { (q : ℕ) → q < (P.Placing.placement p.now).size → slice_index came.old q ≡ 0 }
-    requires full { (i : ℕ) → i < (P.Placing.placement p.now).choices → vacant (P.Placing.placement p.now) ((P.Placing.placement p.now).lies word i) ≡ 0 }
-    ensures { Seeded (net_of (P.Placing.placement p.now)) ((P.Placing.placement p.now).lies word) came.new queue.new (P.Placing.placement p.now).choices result }
+// Marks the own buckets and no others, and puts each into the queue, once: how many the queue then holds.
+fn seed<R: Record, P: Placing<R>>(p: &P, word: u64, spaces: &mut Spaces<'_>) -> u32
+    requires long { Long spaces.old (P.Placing.placement p.now).size }
+    requires full { OwnFull (P.Placing.placement p.now) word }
+    ensures seeded { Seeded (net_of (P.Placing.placement p.now)) ((P.Placing.placement p.now).lies word) spaces.new.came.now spaces.new.queue.now (P.Placing.placement p.now).choices result }
+    ensures lent { Lent spaces.old spaces.new }
 {
+    let queue = &mut *spaces.queue;
+    let came = &mut *spaces.came;
+    came.fill(0);
     let mut tail: u32 = 0;
     for choice in 0..p.choices() {
         let bucket = p.bucket(word, choice);
@@ -34,23 +36,19 @@ fn seed<R: Record, P: Placing<R>>(p: &P, word: u64, queue: &mut [u32], came: &mu
 
 // The nearest bucket with room, and in `came` the way back to an own bucket; nothing where no bucket that can be reached has room.
 // Every bucket is queued at most once, and the search goes on until all that can be reached are done.
-pub fn search<R: Record, P: Placing<R>>(
-    p: &P,
-    word: u64,
-    queue: &mut [u32],
-    came: &mut [u32],
-) -> Option<Found>
-    requires lawful { Lawful (P.Placing.placement p.now) }
-    requires queue { (P.Placing.placement p.now).size ≤ length queue.old }
-    requires came { (P.Placing.placement p.now).size ≤ length came.old }
-    requires clear { (q : ℕ) → q < (P.Placing.placement p.now).size → slice_index came.old q ≡ 0 }
-    requires full { (i : ℕ) → i < (P.Placing.placement p.now).choices → vacant (P.Placing.placement p.now) ((P.Placing.placement p.now).lies word i) ≡ 0 }
-    ensures { Searched (P.Placing.placement p.now) word came.new result }
+pub fn search<R: Record, P: Placing<R>>(p: &P, word: u64, spaces: &mut Spaces<'_>) -> Option<Found>
+    requires long { Long spaces.old (P.Placing.placement p.now).size }
+    requires full { OwnFull (P.Placing.placement p.now) word }
+    ensures searched { Searched (P.Placing.placement p.now) word spaces.new.came.now result }
+    ensures lent { Lent spaces.old spaces.new }
 {
     let slots = p.slots();
     let choices = p.choices();
     let mut head: u32 = 0;
-    let mut tail = seed(p, word, queue, came);
+    let mut tail = seed(p, word, spaces);
+    let queue = &mut *spaces.queue;
+    let came = &mut *spaces.came;
+    // the queue lies in memory that is lent, so its two ends are counted here
     'search: loop {
         if head >= tail {
             break 'search None;

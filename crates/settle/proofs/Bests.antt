@@ -1,5 +1,6 @@
 -- The own bucket with most room, choice by choice; and what it means to settle there.
 use Rattle.std.proofs.Common.{◌≡◌, ℕ, ◌+◌, ◌*◌, ◌%◌, ◌<◌, ◌≤◌, true, [], Some, None, sym, refl, ap, ◌∙◌, subst, ⊎_elim, arith}
+use Rattle.std.proofs.lemmas.Option.{same_Some}
 use Rattle.std.proofs.lemmas.Nat.{div-add-mod', div-mul-add, mod_below}
 use Rattle.std.proofs.lemmas.Bool.{cases_lt}
 use Rattle.records.specs.declared.numbers.Words.{Words}
@@ -7,13 +8,10 @@ use Rattle.rules.specs.Placements.{Placement, Direct, Lawful, vacant}
 use Rattle.rules.specs.Reach.{Layers}
 use Rattle.placing.specs.declared.looks.Gap.{Gap}
 use Rattle.placing.specs.Looks.{Gapped, HasWords, NotIn}
-use Rattle.placing.proofs.Contents.{cell_in, same_some, some_none}
+use Rattle.placing.proofs.Contents.{cell_in}
 use Rattle.settle.specs.Surveys.{Absent, Best, FoundAt, Surveyed}
 
 module _ {R : Type 0} (f : Placement R) (v : ℕ) where
-  pub best_none : (g : Gap) → g.count ≡ 0 → Best f v 0 g
-  best_none g e = record { most = λ i l. absurd (omega arith); chosen = λ l. absurd (omega arith) }
-
   module _ (n : ℕ) (g h : Gap) (b : Best f v n g) (k : Gapped f (f.lies v n) h) where
     here : (i : ℕ) → i < n + 1 → n ≤ i → vacant f (f.lies v i) ≡ h.count
     here i l m = let e : i ≡ n = omega arith in ap (λ j. vacant f (f.lies v j)) e ∙ sym k.count
@@ -94,13 +92,13 @@ module _ {R : Type 0} (f : Placement R) (law : Lawful f) (w : Words) where
     pub surveyed_none : (i : ℕ) → i < f.choices → (s : ℕ) × (s < f.cells) × HasWords f (f.lies v i * f.cells + s) w → Surveyed f w None
     surveyed_none i il (s, sl, k) = record {
       there = λ x. found i s il sl (subst (λ y. HasWords f (f.lies y i * f.cells + s) w) e k);
-      best = λ g x. absurd (some_none g (sym x));
-      absent = λ g x. absurd (some_none g (sym x));
+      best = λ g x. cc;
+      absent = λ g x. cc;
     }
 
     pub surveyed_some : (g : Gap) (n : ℕ) → f.choices ≡ n → Best f v n g → ((i : ℕ) → i < n → NotIn f (f.lies v i) w) → Surveyed f w (Some g)
     surveyed_some g n m b h = record {
-      there = λ x. absurd (some_none g x);
-      best = λ y x. subst (Best f (f.hash w) f.choices) (same_some g y x) (subst (λ u. Best f u f.choices g) e (subst (λ k. Best f v k g) (sym m) b));
+      there = λ x. cc;
+      best = λ y x. subst (Best f (f.hash w) f.choices) (same_Some g y x) (subst (λ u. Best f u f.choices g) e (subst (λ k. Best f v k g) (sym m) b));
       absent = λ y x. absent (λ i il. subst (λ u. NotIn f (f.lies u i) w) e (h i (omega arith)));
     }

@@ -1,12 +1,12 @@
 -- What the search and the walk mean for a table: full buckets that nothing can leave, or a shortest route.
+use Rattle.std.specs.Prelude.{Option}
 use Rattle.std.proofs.Common.{◌≡◌, ℕ, suc, ◌/◌, ◌%◌, ◌<◌, true, false, ◌≢◌, List, get_or, Some, None, sym, ap, ◌∙◌, subst, arith}
+use Rattle.std.proofs.lemmas.Option.{same_Some}
 use Rattle.std.proofs.lemmas.Nat.{div-add-mod', mod_below}
 use Rattle.std.proofs.lemmas.Bool.{ltb-false}
-use Rattle.stores.specs.declared.cells.Cell.{Cell}
-use Rattle.stores.specs.declared.cells.Cell.TheVariants.{Empty, Holds}
 use Rattle.rules.specs.Placements.{Placement, Lawful, vacant, word}
 use Rattle.rules.specs.Reach.{Blocked, Layers}
-use Rattle.placing.proofs.Contents.{led_holds, same_some, some_none}
+use Rattle.placing.proofs.Contents.{led_holds}
 use Rattle.search.specs.Nets.{net_of}
 use Rattle.search.specs.Searches.{Closed, Layered, Nearest}
 use Rattle.search.proofs.Depths.{member, member_in, member_out}
@@ -21,8 +21,8 @@ module _ {R : Type 0} (f : Placement R) (law : Lawful f) (v : ℕ) where
   slot_in c = let l = law.some_cells in mod_below c f.cells (omega arith)
 
   -- where the record in a cell leads
-  leads : (c : ℕ) (r : R) (i : ℕ) → get_or f.held c Empty ≡ Holds r → (net_of f).next (c / f.cells) (c % f.cells) i ≡ f.lies (word f r) i
-  leads c r i e = led_holds (λ r. f.lies (word f r) i) (c / f.cells) _ r (ap (λ y. get_or f.held y Empty) (div-add-mod' c f.cells) ∙ e)
+  leads : (c : ℕ) (r : R) (i : ℕ) → get_or f.held c None ≡ Some r → (net_of f).next (c / f.cells) (c % f.cells) i ≡ f.lies (word f r) i
+  leads c r i e = led_holds (λ r. f.lies (word f r) i) (c / f.cells) _ r (ap (λ y. get_or f.held y None) (div-add-mod' c f.cells) ∙ e)
 
   blocked : (came : List ℕ) → Closed (net_of f) (f.lies v) came → Blocked f v
   blocked came cl = record {
@@ -44,7 +44,7 @@ module _ {R : Type 0} (f : Placement R) (law : Lawful f) (v : ℕ) where
     full = λ d dl p e. let o = ly.full d dl p e in (o.0, no_room p o.1);
   }
 
-  module _ (came : List ℕ) (after : List (Cell R)) (Wrote : (ℕ → Type 0) → Type 0) where
+  module _ (came : List ℕ) (after : List (Option R)) (Wrote : (ℕ → Type 0) → Type 0) where
     cleared : (q : ℕ) (s : Spot) (n : Nearest (net_of f) (f.lies v) came q) → Walked f came s n.steps after Wrote → Cleared f v after Wrote s
     cleared q s n w = record {
       rest = w.rest;
@@ -58,12 +58,12 @@ module _ {R : Type 0} (f : Placement R) (law : Lawful f) (v : ℕ) where
 
     pub roomed_some : (q : ℕ) (s : Spot) (n : Nearest (net_of f) (f.lies v) came q) → Walked f came s n.steps after Wrote → Roomed f v after Wrote (Some s)
     roomed_some q s n w = record {
-      blocked = λ e. absurd (some_none s e);
-      cleared = λ x e. subst (Cleared f v after Wrote) (same_some s x e) (cleared q s n w);
+      blocked = λ e. cc;
+      cleared = λ x e. subst (Cleared f v after Wrote) (same_Some s x e) (cleared q s n w);
     }
 
     pub roomed_none : Closed (net_of f) (f.lies v) came → after ≡ f.held → Wrote (λ c. ⊥) → Roomed f v after Wrote None
     roomed_none cl e w = record {
       blocked = λ k. (blocked came cl, e, w);
-      cleared = λ s k. absurd (some_none s (sym k));
+      cleared = λ s k. cc;
     }

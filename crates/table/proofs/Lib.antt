@@ -1,7 +1,6 @@
 pub mod Puts
 pub mod Searched
 pub mod Founds
-pub mod Emptying
 pub mod Insertions
 pub mod Limits
 pub mod Makings

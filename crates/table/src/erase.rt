@@ -3,7 +3,7 @@ ghost use Rattle.std.specs.Prelude.{◌≡◌};
 ghost use Rattle.rules.specs.Calls.{Erases};
 ghost use Rattle.rules.specs.Tables.{Sound, used_in};
 ghost use Rattle.rules.specs.Written.{Kept, Wrote};
-ghost use Rattle.table.specs.States.{state_of};
+ghost use Rattle.table.specs.States.{Lasting, state_of};
 
 use crate::cells::put;
 use crate::seeks::seek;
@@ -24,13 +24,12 @@ impl<'f, F: Family, S> Table<'f, F, S> {
         ensures kept { Kept (used_in self.old.size) (S.Store.cells self.old.store) (S.Store.cells self.new.store) (S.Store.raw self.old.store) (S.Store.raw self.new.store) }
         ensures size { self.new.size ≡ self.old.size }
         ensures family { self.new.family ≡ self.old.family }
-        ensures place { S.Store.place self.new.store ≡ S.Store.place self.old.store }
-        ensures code { S.Store.code self.new.store ≡ S.Store.code self.old.store }
+        ensures lasting { Lasting S.Store.place S.Store.code self.old.store self.new.store }
     {
-        let Some(hit) = seek::<R, F, S>(self.size, self.family, &self.store, key) else {
-            return Err(Decline::KeyAbsent);
-        };
-        put::<R, S>(&mut self.store, hit.cell, Cell::Empty);
+        let hit = seek::<R, F, S>(self.size, self.family, &self.store, key).ok_or(
+            Decline::KeyAbsent,
+        )?;
+        put::<R, S>(&mut self.store, hit.cell, None);
         self.count = self.count.saturating_sub(1);
         Ok(hit.held)
     }

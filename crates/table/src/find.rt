@@ -16,9 +16,7 @@ impl<'f, F: Family, S> Table<'f, F, S> {
         S: Store<R>,
         ensures { Sound R.Record.key_of R.Record.words_of (F.Family.hash_of self.now.family.now) (state_of S.Store.cells self.now) → Finds R.Record.key_of (state_of S.Store.cells self.now) key result }
     {
-        match seek::<R, F, S>(self.size, self.family, &self.store, key) {
-            Some(hit) => Some(hit.held),
-            None => None,
-        }
+        let hit = seek::<R, F, S>(self.size, self.family, &self.store, key)?;
+        Some(hit.held)
     }
 }

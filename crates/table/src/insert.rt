@@ -5,9 +5,9 @@ ghost use Rattle.rules.specs.Calls.{Inserts, Space};
 ghost use Rattle.rules.specs.Placements.{placement_of};
 ghost use Rattle.rules.specs.Tables.{Sound, used_in};
 ghost use Rattle.rules.specs.Written.{Kept, Wrote};
-ghost use Rattle.settle.specs.Rooms.{Zero};
+ghost use Rattle.search.specs.Spaces.{AllZero, Lent, Long};
 ghost use Rattle.settle.specs.Settled.{Settled};
-ghost use Rattle.table.specs.States.{state_of};
+ghost use Rattle.table.specs.States.{Lasting, state_of};
 
 use crate::cells::put;
 use crate::laid::Laid;
@@ -18,9 +18,10 @@ use placing::placing::Placing;
 use records::declines::Decline;
 use records::kinds::Record;
 use records::numbers::Words;
-use settle::rooms::clear;
+use search::spaces::Spaces;
 use settle::settles::settle;
 use settle::spot::Spot;
+use std::marker::PhantomData;
 use stores::cells::Cell;
 use stores::store::Store;
 
@@ -30,29 +31,28 @@ fn settle_in<R: Record, F: Family, S: Store<R>>(
     family: &F,
     store: &mut S,
     words: &Words,
-    queue: &mut [u32],
-    came: &mut [u32],
+    spaces: &mut Spaces<'_>,
 ) -> Result<Spot, Decline>
     requires reach { used_in size ≤ length (S.Store.cells store.old) }
-    requires queue { buckets_in size ≤ length queue.old }
-    requires came { buckets_in size ≤ length came.old }
+    requires long { Long spaces.old (buckets_in size) }
     ensures settled { Settled (placement_of (λ x. R.Record.words_of (R.Record.key_of x)) (F.Family.hash_of family.now) size (S.Store.cells store.old)) words.now (S.Store.cells store.new) (Wrote (S.Store.code store.old) (S.Store.raw store.old) (S.Store.raw store.new) (S.Store.cells store.new)) result }
-    ensures place { S.Store.place store.new ≡ S.Store.place store.old }
-    ensures code { S.Store.code store.new ≡ S.Store.code store.old }
-    ensures queue { Zero queue.new }
-    ensures came { Zero came.new }
+    ensures lasting { Lasting S.Store.place S.Store.code store.old store.new }
+    ensures lent { Lent spaces.old spaces.new }
+    ensures zero { AllZero spaces.new }
 {
     let mut laid = Laid {
         size,
         family,
         store,
+        of: PhantomData::<R>,
     };
-    settle::<R, _>(&mut laid, words, queue, came)
+    settle::<R, _>(&mut laid, words, spaces)
 }
 
 impl<'f, F: Family, S> Table<'f, F, S> {
     // Adds a record whose key is not stored: how many others were displaced for it. It declines with 5 where a working space is
-    // too short, with 6 where the key is stored, and with 8 where no assignment holds it and all stored keys.
+    // too short, with 6 where the key is stored, and with 8 where no assignment holds it and all stored keys. The spaces stay two
+    // slices here, as whoever calls has them.
     pub fn insert<R: Record>(
         &mut self,
         added: R,
@@ -68,26 +68,27 @@ impl<'f, F: Family, S> Table<'f, F, S> {
         ensures kept { Kept (used_in self.old.size) (S.Store.cells self.old.store) (S.Store.cells self.new.store) (S.Store.raw self.old.store) (S.Store.raw self.new.store) }
         ensures size { self.new.size ≡ self.old.size }
         ensures family { self.new.family ≡ self.old.family }
-        ensures place { S.Store.place self.new.store ≡ S.Store.place self.old.store }
-        ensures code { S.Store.code self.new.store ≡ S.Store.code self.old.store }
+        ensures lasting { Lasting S.Store.place S.Store.code self.old.store self.new.store }
     {
         let buckets = self.size.buckets();
         if queue.len().min(came.len()) < buckets as usize {
             return Err(Decline::ShortSpace);
         }
-        if self.store.length() < (buckets * self.size.settings.cells) as u64 {
-            clear(queue);
-            clear(came);
+        let mut spaces = Spaces { queue, came };
+        if self.store.length() < u64::from(self.size.used()) {
+            spaces.clear();
             return Err(Decline::Full);
         }
         let words = R::words(added.key());
-        match settle_in::<R, F, S>(self.size, self.family, &mut self.store, &words, queue, came) {
-            Ok(spot) => {
-                put::<R, S>(&mut self.store, spot.cell, Cell::Holds(added));
-                self.count = self.count.saturating_add(1);
-                Ok(spot.moves)
-            }
-            Err(decline) => Err(decline),
-        }
+        let spot = settle_in::<R, F, S>(
+            self.size,
+            self.family,
+            &mut self.store,
+            &words,
+            &mut spaces,
+        )?;
+        put::<R, S>(&mut self.store, spot.cell, Some(added));
+        self.count = self.count.saturating_add(1);
+        Ok(spot.moves)
     }
 }

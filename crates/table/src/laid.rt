@@ -1,24 +1,32 @@
-// The cells of a store as they lie in the buckets of a size, under a family.
-ghost use Rattle.rules.specs.Placements.{placement_of};
+// The cells of a store as they lie in the buckets of a size, under a family. The store has the used cells of the size.
+ghost use Rattle.std.specs.Prelude.{◌≤◌, length};
+ghost use Rattle.rules.specs.Tables.{used_in};
 
-use crate::cells::{held_at, put};
+use crate::cells::put;
 use addresses::families::Family;
 use addresses::positions::choice;
 use addresses::sizes::Size;
 use placing::placing::Placing;
 use records::kinds::Record;
 use records::numbers::Words;
+use std::marker::PhantomData;
 use stores::cells::Cell;
+use stores::row::Row;
 use stores::store::Store;
 
 #[derive(Drop)]
-pub struct Laid<'f, F, S> {
+pub struct Laid<'f, R: Record, F, S: Store<R>> {
     pub size: Size,
     pub family: &'f F,
     pub store: S,
+    pub of: PhantomData<R>,
+    pub ghost reach: { used_in size ≤ length (S.Store.cells store) },
 }
 
-impl<'f, R: Record, F: Family, S: Store<R>> Placing<R> for Laid<'f, F, S> {
+impl<'f, R: Record, F: Family, S: Store<R>> Placing<R> for Laid<'f, R, F, S> {
+    ghost use Rattle.rules.specs.Placements.{placement_of};
+    ghost use Rattle.rules.proofs.Lawfuls.{lawful_placement};
+
     ghost placement = { λ s. placement_of (λ r. R.Record.words_of (R.Record.key_of r)) (F.Family.hash_of s.family.now) s.size (S.Store.cells s.store) };
 
     ghost place = { λ s. S.Store.place s.store };
@@ -26,6 +34,8 @@ impl<'f, R: Record, F: Family, S: Store<R>> Placing<R> for Laid<'f, F, S> {
     ghost raw = { λ s. S.Store.raw s.store };
 
     ghost code = { λ s. S.Store.code s.store };
+
+    ghost lawful = { λ s. lawful_placement _ _ s.size _ s.reach };
 
     fn buckets(&self) -> u32 {
         self.size.buckets()
@@ -40,10 +50,8 @@ impl<'f, R: Record, F: Family, S: Store<R>> Placing<R> for Laid<'f, F, S> {
     }
 
     fn words_at(&self, cell: u32) -> Option<Words> {
-        match held_at(&self.store, cell) {
-            Cell::Holds(record) => Some(R::words(record.key())),
-            Cell::Empty => None,
-        }
+        let record: R = (&self.store).cell(cell)?;
+        Some(R::words(record.key()))
     }
 
     fn hash(&self, words: Words) -> u64 {
@@ -55,7 +63,7 @@ impl<'f, R: Record, F: Family, S: Store<R>> Placing<R> for Laid<'f, F, S> {
     }
 
     fn copy(&mut self, from: u32, to: u32) {
-        let held: Cell<R> = held_at(&self.store, from);
+        let held: Cell<R> = (&self.store).cell(from);
         put(&mut self.store, to, held);
     }
 }

@@ -4,7 +4,6 @@
 pub mod cells;
 pub mod erase;
 pub mod find;
-pub mod hit;
 pub mod insert;
 pub mod laid;
 pub mod make;

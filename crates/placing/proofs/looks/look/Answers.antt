@@ -1,23 +1,18 @@
-use Rattle.std.proofs.Common.{◌≡◌, ◌<◌, sym, ◌∙◌, subst, arith}
-use Rattle.placing.proofs.Contents.{cell_in, unmapped_none, unmapped_some}
+use Rattle.std.proofs.Common.{◌≡◌, sym, ◌∙◌, subst, arith}
+use Rattle.records.proofs.Words.{other_words}
+use Rattle.placing.proofs.Contents.{unmapped_none, unmapped_some}
 use Rattle.placing.proofs.Vacancies.{Looking, looking_held, looking_empty, looking_gap, looked}
 use Rattle.placing.proofs.looks.look.Goals as goal
-use Rattle.placing.proofs.looks.look.Goals.{in-None, in-Some+else-same}
-
-pub words_at-requires : goal.words_at-requires
-words_at-requires g c =
-    let f = g.P.Placing.placement c.args.p.now in
-    let s : c.loop-slot.slot < f.cells = omega arith in
-    simp c.slots-slots.ensures (cell_in f c.requires.lawful c.args.bucket c.loop-slot.slot c.requires.inside s).0
+use Rattle.placing.proofs.looks.look.Goals.{in-None, in-Some+else-eq}
 
 pub loop-slot-preserved : goal.loop-slot-preserved
 loop-slot-preserved g c =
     let f = g.P.Placing.placement c.args.p.now in
     let e = c.slots-slots.ensures in
     elim c.match-words_at.branch [
-      | in-Some+else-same w ↦
+      | in-Some+else-eq w ↦
           let h = unmapped_some f.words _ w.in-Some.found (sym (simp e at w.in-Some.ensures)) in
-          looking_gap f c.args.bucket c.args.words.now _ _ _ w.gap-is (looking_held f c.args.bucket c.args.words.now _ _ _ c.loop-slot.invariant h.0 h.1 (λ k. w.if-same.ensures (sym h.2 ∙ k)))
+          looking_gap f c.args.bucket c.args.words.now _ _ _ w.gap-is (looking_held f c.args.bucket c.args.words.now _ _ _ c.loop-slot.invariant h.0 h.1 (λ k. other_words _ _ _ w.eq.ensures w.if-eq.false (sym h.2 ∙ k)))
       | in-None w ↦
           let h = unmapped_none f.words _ (sym (simp e at w.in-None.ensures)) in
           let y = simp e at w.with-gap.ensures.cell in

@@ -5,31 +5,21 @@ use Rattle.settle.proofs.rooms.make_room.Goals as goal
 
 pub walk-requires : goal.walk-requires
 walk-requires g c =
-    let k = c.search.ensures in
-    let n = k.nearest c.in-Some.found c.in-Some.is in
+    let k = c.search.ensures.searched in
+    let n = k.nearest c.in_ok-found.found c.in_ok-found.was in
     record {
-      lawful = c.requires.lawful;
       long = omega arith;
-      empty = k.free c.in-Some.found c.in-Some.is;
-      below = k.below c.in-Some.found c.in-Some.is;
+      empty = k.free c.in_ok-found.found c.in_ok-found.was;
+      below = k.below c.in_ok-found.found c.in_ok-found.was;
       inside = n.inside;
       trail = (n.steps, n.short, n.trail);
     }
 
-pub returns-in-Some : goal.returns-in-Some
-returns-in-Some g c =
-    let n = c.search.ensures.nearest c.in-Some.found c.in-Some.is in
-    record {
-      placement = c.walk.ensures.placement;
-      roomed = roomed_some _ c.requires.lawful _ _ _ _ c.in-Some.found.bucket _ n (c.walk.ensures.walked n.steps n.short n.trail);
-      place = c.walk.ensures.place;
-      code = c.walk.ensures.code;
-    }
+pub returns-clause-roomed : goal.returns-clause-roomed
+returns-clause-roomed g c =
+    let n = c.search.ensures.searched.nearest c.in_ok-found.found c.in_ok-found.was in
+    roomed_some _ (g.met.P.Placing.lawful c.args.p.now) _ _ _ _ c.in_ok-found.found.bucket _ n (c.walk.ensures.walked n.steps n.short n.trail)
 
-pub returns-in-None : goal.returns-in-None
-returns-in-None g c = record {
-  placement = refl;
-  roomed = roomed_none _ c.requires.lawful _ _ _ _ (c.search.ensures.closed c.in-None.is) refl (wrote_none _ _ _);
-  place = refl;
-  code = refl;
-}
+pub returns-in_err-found-clause-roomed : goal.returns-in_err-found-clause-roomed
+returns-in_err-found-clause-roomed g c =
+    rw c.from_residual.ensures (roomed_none _ (g.met.P.Placing.lawful c.args.p.now) _ _ _ _ (c.search.ensures.searched.closed c.in_err-found.was) refl (wrote_none _ _ _))

@@ -1,71 +1,52 @@
-use Rattle.std.proofs.Common.{◌≤◌, length, sym, refl, ap, ◌∙◌, subst, arith}
+use Rattle.std.specs.Prelude.{Ok}
+use Rattle.std.proofs.Common.{◌≤◌, length, refl, ap, ◌∙◌, arith}
+use Rattle.std.proofs.lemmas.Result.{err_from_is_err_and}
 use Rattle.addresses.specs.Sized.{buckets_in}
-use Rattle.stores.specs.declared.cells.Cell.TheVariants.{Holds}
-use Rattle.rules.specs.Stored.{placement_in}
-use Rattle.rules.specs.Tables.{Sound}
-use Rattle.rules.specs.Written.{Wrote}
-use Rattle.rules.proofs.Sounds.{same_state}
-use Rattle.settle.specs.Settled.{Settled}
+use Rattle.rules.specs.Tables.{used_in}
 use Rattle.table.specs.States.{state_of}
-use Rattle.table.proofs.Insertions.{inserted_kept, inserted_sound, inserts_err, inserts_ok, refused_kept}
-use Rattle.table.proofs.Limits.{cleared, not_short, one_more, reach_of}
+use Rattle.table.proofs.Insertions.{Leaves, leaves_err, leaves_ok}
+use Rattle.table.proofs.table.Table.insert.Given.{Over}
 use Rattle.table.proofs.table.Table.insert.Goals as goal
 
-pub returns-in-Ok : goal.returns-in-Ok
-returns-in-Ok g c =
-    let key = g.R.Record.key_of in
-    let words = g.R.Record.words_of in
-    let hash = g.F.Family.hash_of c.args.self.now.family.now in
-    let s = state_of g.S.Store.cells c.args.self.now in
-    let code = g.S.Store.code c.args.self.now.store in
-    let raw = g.S.Store.raw c.args.self.now.store in
-    let raw' = g.S.Store.raw c.settle_in.new.store in
-    let raw'' = g.S.Store.raw c.put.new.store in
-    let mid = g.S.Store.cells c.settle_in.new.store in
+written :
+    (g : Over) (c : goal.After-self-1 g) →
+    Leaves g.R.Record.key_of g.R.Record.words_of (g.F.Family.hash_of c.args.self.now.family.now) (state_of g.S.Store.cells c.args.self.now) c.args.added (length c.args.queue.now) (length c.args.came.now)
+    (g.S.Store.code c.args.self.now.store) (g.S.Store.raw c.args.self.now.store) (g.S.Store.raw c.put.new.store)
+    (state_of g.S.Store.cells (record { size = c.args.self.now.size; count = c.saturating_add-self.result; family = c.args.self.now.family; store = c.put.new.store })) (Ok c.in_ok-spot.spot.moves)
+written g c =
     let p = c.put.ensures in
     let k = c.settle_in.ensures in
-    let ew = c.words-words.ensures ∙ ap words c.key.ensures in
-    let r = (subst (λ w. Settled (placement_in key words hash s) w mid (Wrote code raw raw' mid) c.settle_in.result) ew k.settled).ready c.in-Ok.spot c.in-Ok.is in
-    let lv : buckets_in s.size ≤ length c.args.queue.now = omega arith in
-    let lw : buckets_in s.size ≤ length c.args.came.now = omega arith in
-    let reach = reach_of s.size c.buckets-buckets.result _ _ c.buckets-buckets.ensures.number c.if-length-buckets.false c.length.ensures.value in
-    let u = state_of g.S.Store.cells (record { size = s.size; count = c.saturating_add-self.result; family = c.args.self.now.family; store = c.put.new.store }) in
-    record {
-      inserted = λ sound. inserts_ok key words hash s c.args.added (length c.args.queue.now) (length c.args.came.now) lv lw code raw raw' raw'' mid c.in-Ok.spot r u reach refl p.cells p.others (λ l. p.made l ∙ ap (λ q. q c.in-Ok.spot.cell (Holds c.args.added)) k.code) g.met.R.Record.apart sound (one_more key words hash s sound _ c.saturating_add-self.ensures);
-      sound = λ sound. inserted_sound key words hash s c.args.added (length c.args.queue.now) (length c.args.came.now) lv lw code raw raw' raw'' mid c.in-Ok.spot r u reach refl p.cells p.others (λ l. p.made l ∙ ap (λ q. q c.in-Ok.spot.cell (Holds c.args.added)) k.code) g.met.R.Record.apart sound (one_more key words hash s sound _ c.saturating_add-self.ensures);
-      queue = cleared _ _ _ (λ e. omega arith) k.queue;
-      came = cleared _ _ _ (λ e. omega arith) k.came;
-      kept = inserted_kept key words hash s c.args.added (length c.args.queue.now) (length c.args.came.now) lv lw code raw raw' raw'' mid c.in-Ok.spot r u reach refl p.cells p.others (λ l. p.made l ∙ ap (λ q. q c.in-Ok.spot.cell (Holds c.args.added)) k.code);
-      size = refl;
-      family = refl;
-      place = p.place ∙ k.place;
-      code = p.code ∙ k.code;
-    }
+    let lv : buckets_in c.args.self.now.size ≤ length c.args.queue.now = omega arith in
+    let lw : buckets_in c.args.self.now.size ≤ length c.args.came.now = omega arith in
+    let reach : used_in c.args.self.now.size ≤ length (g.S.Store.cells c.args.self.now.store) = omega (arith, c.used.ensures) in
+    leaves_ok _ _ g.met.R.Record.apart _ _ _ _ (c.words-words.ensures ∙ ap g.R.Record.words_of c.key.ensures) _ _ lv lw _ _ _ _ _ k.settled
+    c.in_ok-spot.spot c.in_ok-spot.was reach _ k.lasting.code _ _ refl p.cells p.others p.made c.saturating_add-self.ensures
 
-pub returns-in-Err : goal.returns-in-Err
-returns-in-Err g c =
-    let key = g.R.Record.key_of in
-    let words = g.R.Record.words_of in
-    let hash = g.F.Family.hash_of c.args.self.now.family.now in
-    let s = state_of g.S.Store.cells c.args.self.now in
-    let code = g.S.Store.code c.args.self.now.store in
-    let raw = g.S.Store.raw c.args.self.now.store in
-    let raw' = g.S.Store.raw c.settle_in.new.store in
-    let mid = g.S.Store.cells c.settle_in.new.store in
-    let k = c.settle_in.ensures in
-    let ew = c.words-words.ensures ∙ ap words c.key.ensures in
-    let r = (subst (λ w. Settled (placement_in key words hash s) w mid (Wrote code raw raw' mid) c.settle_in.result) ew k.settled).refused c.in-Err.decline c.in-Err.is in
-    let lv : buckets_in s.size ≤ length c.args.queue.now = omega arith in
-    let lw : buckets_in s.size ≤ length c.args.came.now = omega arith in
-    let same = same_state {s = record { size = s.size; count = s.count; cells = mid }} {u = s} refl refl r.cells in
-    record {
-      inserted = inserts_err key words hash s c.args.added (length c.args.queue.now) (length c.args.came.now) lv lw g.met.R.Record.apart code raw raw' c.in-Err.decline _ r same;
-      sound = λ sound. subst (Sound key words hash) (sym same) sound;
-      queue = cleared _ _ _ (not_short _ _ _ _ _ r) k.queue;
-      came = cleared _ _ _ (not_short _ _ _ _ _ r) k.came;
-      kept = refused_kept key words hash s c.args.added (length c.args.queue.now) (length c.args.came.now) lv lw g.met.R.Record.apart code raw raw' c.in-Err.decline _ r same;
-      size = refl;
-      family = refl;
-      place = k.place;
-      code = k.code;
-    }
+pub returns-clause-inserted : goal.returns-clause-inserted
+returns-clause-inserted g c = (written g c).inserted
+
+pub returns-clause-sound : goal.returns-clause-sound
+returns-clause-sound g c = (written g c).sound
+
+pub returns-clause-kept : goal.returns-clause-kept
+returns-clause-kept g c = (written g c).kept
+
+declined :
+    (g : Over) (c : goal.After-from_residual g) →
+    Leaves g.R.Record.key_of g.R.Record.words_of (g.F.Family.hash_of c.args.self.now.family.now) (state_of g.S.Store.cells c.args.self.now) c.args.added (length c.args.queue.now) (length c.args.came.now)
+    (g.S.Store.code c.args.self.now.store) (g.S.Store.raw c.args.self.now.store) (g.S.Store.raw c.settle_in.new.store)
+    (state_of g.S.Store.cells (record { size = c.args.self.now.size; count = c.args.self.now.count; family = c.args.self.now.family; store = c.settle_in.new.store })) c.from_residual.result
+declined g c =
+    let lv : buckets_in c.args.self.now.size ≤ length c.args.queue.now = omega arith in
+    let lw : buckets_in c.args.self.now.size ≤ length c.args.came.now = omega arith in
+    let o = err_from_is_err_and c.from_residual.result c.from_residual.ensures.1 in
+    rw (o.1, o.2) (leaves_err _ _ g.met.R.Record.apart _ _ _ _ (c.words-words.ensures ∙ ap g.R.Record.words_of c.key.ensures) _ _ lv lw _ _ _ _ _ c.settle_in.ensures.settled _ c.in_err-spot.was)
+
+pub returns-in_err-spot-clause-inserted : goal.returns-in_err-spot-clause-inserted
+returns-in_err-spot-clause-inserted g c = (declined g c).inserted
+
+pub returns-in_err-spot-clause-sound : goal.returns-in_err-spot-clause-sound
+returns-in_err-spot-clause-sound g c = (declined g c).sound
+
+pub returns-in_err-spot-clause-kept : goal.returns-in_err-spot-clause-kept
+returns-in_err-spot-clause-kept g c = (declined g c).kept

@@ -1,6 +1,0 @@
-// A record that was found, and the cell that it lies in.
-#[derive(Clone, Copy)]
-pub struct Hit<R> {
-    pub cell: u32,
-    pub held: R,
-}
