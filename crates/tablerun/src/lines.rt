@@ -1,5 +1,11 @@
 // The lines that are read, and what each asks for.
+ghost use Rattle.std.specs.Prelude.{◌≤◌};
+
+use addresses::families::FamilyKind;
+use addresses::sizes::SettingNumbers;
+use records::declines::Decline;
 use std::alloc::{AllocError, Global};
+use std::str::FromStr;
 
 // The most cells of a store, and numbers of a working space.
 const LONGEST: u32 = 200_000;
@@ -21,11 +27,7 @@ pub enum Line {
 pub struct Making {
     pub store: StoreKind,
     pub cells: u32,
-    pub t: u32,
-    pub bucket: u32,
-    pub choices: u32,
-    pub start: u32,
-    pub load: u32,
+    pub settings: SettingNumbers,
     pub family: FamilyKind,
 }
 
@@ -35,12 +37,6 @@ pub enum StoreKind {
     Bytes,
     Joined,
     Window,
-}
-
-#[derive(Clone, Copy)]
-pub enum FamilyKind {
-    Fnv,
-    Straight,
 }
 
 // The numbers of a tag record; the grain may be outside its range.
@@ -85,67 +81,59 @@ fn making_of(fields: &[&str]) -> Option<Making> {
         return None;
     };
     Some(Making {
-        store: store_kind(store)?,
+        store: store.parse().ok()?,
         cells: length(cells)?,
-        t: number(t)?,
-        bucket: number(bucket)?,
-        choices: number(choices)?,
-        start: number(start)?,
-        load: number(load)?,
-        family: family_kind(number(family)?)?,
+        settings: SettingNumbers {
+            t: number(t)?,
+            cells: number(bucket)?,
+            choices: number(choices)?,
+            start: number(start)?,
+            load: number(load)?,
+        },
+        family: family_kind(family)?,
     })
 }
 
-fn store_kind(letter: &str) -> Option<StoreKind> {
-    match letter {
-        "p" => Some(StoreKind::Plain),
-        "b" => Some(StoreKind::Bytes),
-        "j" => Some(StoreKind::Joined),
-        "w" => Some(StoreKind::Window),
-        _ => None,
-    }
-}
+impl FromStr for StoreKind {
+    type Err = Decline;
 
-fn family_kind(number: u32) -> Option<FamilyKind> {
-    match number {
-        1 => Some(FamilyKind::Fnv),
-        2 => Some(FamilyKind::Straight),
-        _ => None,
-    }
-}
-
-// 1 to 10 decimal digits of a 32-bit number.
-fn number(text: &str) -> Option<u32> {
-    if text.len() > 10 {
-        return None;
-    }
-    for digit in text.bytes() {
-        if !digit.is_ascii_digit() {
-            return None;
+    fn from_str(letter: &str) -> Result<StoreKind, Decline> {
+        match letter {
+            "p" => Ok(StoreKind::Plain),
+            "b" => Ok(StoreKind::Bytes),
+            "j" => Ok(StoreKind::Joined),
+            "w" => Ok(StoreKind::Window),
+            _ => Err(Decline::UnreadableLine),
         }
     }
-    u32::from_str_radix(text, 10).ok()
+}
+
+fn family_kind(text: &str) -> Option<FamilyKind> {
+    let number = u8::try_from(number(text)?).ok()?;
+    FamilyKind::try_from(number).ok()
 }
 
 // A number of cells, or of a working space's numbers.
 fn length(text: &str) -> Option<u32> {
-    let length = number(text)?;
-    if length <= LONGEST {
-        Some(length)
-    } else {
-        None
-    }
+    number(text).filter(|length| *length <= LONGEST)
+}
+
+// 1 to 10 decimal digits of a 32-bit number.
+fn number(text: &str) -> Option<u32> {
+    u32::try_from(digits(text, 10, 10)?).ok()
 }
 
 // 1 to 16 hexadecimal digits.
 fn tag_of(text: &str) -> Option<u64> {
-    if text.len() > 16 {
+    digits(text, 16, 16)
+}
+
+// The number that some digits to a base give, if there are no more than so many.
+fn digits(text: &str, base: u32, most: usize) -> Option<u64>
+    requires { (2 ≤ base) × (base ≤ 36) }
+{
+    if text.len() > most || !text.chars().all(|digit| digit.is_digit(base)) {
         return None;
     }
-    for digit in text.bytes() {
-        if !digit.is_ascii_hexdigit() {
-            return None;
-        }
-    }
-    u64::from_str_radix(text, 16).ok()
+    u64::from_str_radix(text, base).ok()
 }

@@ -8,6 +8,7 @@ mod spaces;
 
 use answers::decline_lines;
 use lines::Line;
+use makes::Run;
 use std::alloc::Global;
 use std::io;
 use std::io::{BufRead, BufReader, BufWriter, Write};
@@ -26,9 +27,15 @@ fn main(rt: HostRuntime) -> io::Result<()> {
 // Before the first make there is no table. Each make has the lines up to the next one.
 fn answer_all<W: Write>(heap: Global, out: &mut W, lines: &[Line]) -> io::Result<()> {
     decline_lines(out, until_make(lines))?;
-    for at in 0..lines.len() {
-        if let Line::Make(asked) = lines[at] {
-            makes::run(heap, out, asked, until_make(&lines[at + 1..]))?;
+    for (at, line) in lines.iter().enumerate() {
+        if let Line::Make(asked) = *line {
+            let mut run = Run {
+                heap,
+                out,
+                asked,
+                lines: until_make(&lines[at + 1..]),
+            };
+            run.answer()?;
         }
     }
     Ok(())
@@ -36,10 +43,6 @@ fn answer_all<W: Write>(heap: Global, out: &mut W, lines: &[Line]) -> io::Result
 
 // The lines before the first make.
 fn until_make(lines: &[Line]) -> &[Line] {
-    for at in 0..lines.len() {
-        if let Line::Make(_) = lines[at] {
-            return &lines[0..at];
-        }
-    }
-    lines
+    let end = lines.iter().position(|line| matches!(line, Line::Make(_)));
+    &lines[..end.unwrap_or(lines.len())]
 }

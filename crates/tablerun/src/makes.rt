@@ -1,19 +1,19 @@
 // A new store for every table, and the table over it.
-use crate::answers::{answer_lines, decline_lines};
-use crate::lines::{FamilyKind, Line, Making, StoreKind};
-use addresses::families::{Family, Fnv, Straight};
+use crate::answers::{Desk, decline_lines};
+use crate::lines::{Line, Making, StoreKind};
+use crate::spaces::Spaces;
 use octets::store::ByteStore;
 use records::numbers::TagNumbers;
 use records::records::TagRecord;
 use std::alloc::Global;
 use std::io;
 use std::io::Write;
-use stores::cells::Cell;
 use stores::joined::Joined;
 use stores::plain::Plain;
 use stores::store::Store;
 use stores::window::Window;
 use table::make::make;
+use table::table::Table;
 
 // The tag in cell 0 of a new store; each cell's tag is one more than the one before.
 const FIRST_TAG: u64 = 0xf000_0000_0000_0000;
@@ -21,110 +21,84 @@ const FIRST_TAG: u64 = 0xf000_0000_0000_0000;
 // Cells of the store behind a window, before the window's first.
 const BEFORE: u64 = 3;
 
-// Makes a table, and answers the make and the lines after it.
-pub fn run<W: Write>(heap: Global, out: &mut W, asked: Making, lines: &[Line]) -> io::Result<()> {
-    match asked.store {
-        StoreKind::Plain => run_plain(heap, out, asked, lines),
-        StoreKind::Bytes => run_bytes(heap, out, asked, lines),
-        StoreKind::Joined => run_joined(heap, out, asked, lines),
-        StoreKind::Window => run_window(heap, out, asked, lines),
-    }
+// What a make asks for, the lines up to the next make, and where the answers go.
+#[derive(Drop)]
+pub struct Run<'a, W> {
+    pub heap: Global,
+    pub out: &'a mut W,
+    pub asked: Making,
+    pub lines: &'a [Line],
 }
 
-fn run_plain<W: Write>(heap: Global, out: &mut W, asked: Making, lines: &[Line]) -> io::Result<()> {
-    let mut cells = vec![in heap; Cell::<TagNumbers>::Empty; asked.cells as usize]?;
-    run_over(heap, out, &mut Plain { cells: &mut cells }, asked, lines)
-}
-
-fn run_bytes<W: Write>(heap: Global, out: &mut W, asked: Making, lines: &[Line]) -> io::Result<()> {
-    let mut bytes = vec![in heap; 0u8; 32 * asked.cells as usize]?;
-    run_over(
-        heap,
-        out,
-        &mut ByteStore { bytes: &mut bytes },
-        asked,
-        lines,
-    )
-}
-
-// Half of the cells are plain, the rest bytes.
-fn run_joined<W: Write>(
-    heap: Global,
-    out: &mut W,
-    asked: Making,
-    lines: &[Line],
-) -> io::Result<()> {
-    let half = asked.cells / 2;
-    let mut cells = vec![in heap; Cell::<TagNumbers>::Empty; half as usize]?;
-    let mut bytes = vec![in heap; 0u8; 32 * (asked.cells - half) as usize]?;
-    let mut first = Plain { cells: &mut cells };
-    let mut second = ByteStore { bytes: &mut bytes };
-    run_both(heap, out, &mut first, &mut second, asked, lines)
-}
-
-fn run_both<W: Write, A: Store<TagRecord>, B: Store<TagRecord>>(
-    heap: Global,
-    out: &mut W,
-    first: &mut A,
-    second: &mut B,
-    asked: Making,
-    lines: &[Line],
-) -> io::Result<()> {
-    run_over(heap, out, &mut Joined { first, second }, asked, lines)
-}
-
-// The window lies within a plain store that has five cells more.
-fn run_window<W: Write>(
-    heap: Global,
-    out: &mut W,
-    asked: Making,
-    lines: &[Line],
-) -> io::Result<()> {
-    let mut cells = vec![in heap; Cell::<TagNumbers>::Empty; asked.cells as usize + 5]?;
-    run_part(heap, out, &mut Plain { cells: &mut cells }, asked, lines)
-}
-
-fn run_part<W: Write, S: Store<TagRecord>>(
-    heap: Global,
-    out: &mut W,
-    inner: &mut S,
-    asked: Making,
-    lines: &[Line],
-) -> io::Result<()> {
-    let mut part = Window {
-        inner,
-        start: BEFORE,
-        len: asked.cells as u64,
-    };
-    run_over(heap, out, &mut part, asked, lines)
-}
-
-fn run_over<W: Write, S: Store<TagRecord>>(
-    heap: Global,
-    out: &mut W,
-    store: &mut S,
-    asked: Making,
-    lines: &[Line],
-) -> io::Result<()> {
-    fill(store, asked.cells);
-    match make::<TagRecord, S>(
-        asked.t,
-        asked.bucket,
-        asked.choices,
-        asked.start,
-        asked.load,
-        store,
-    ) {
-        Ok(size) => {
-            writeln!(out, "m 0 {}", size.buckets())?;
-            match asked.family {
-                FamilyKind::Fnv => answer_lines(heap, out, size, &Fnv, store, lines),
-                FamilyKind::Straight => answer_lines(heap, out, size, &Straight, store, lines),
-            }
+impl<W: Write> Run<'_, W> {
+    // Makes a table, and answers the make and the lines after it.
+    pub fn answer(&mut self) -> io::Result<()> {
+        match self.asked.store {
+            StoreKind::Plain => self.over_plain(),
+            StoreKind::Bytes => self.over_bytes(),
+            StoreKind::Joined => self.over_joined(),
+            StoreKind::Window => self.over_window(),
         }
-        Err(decline) => {
-            writeln!(out, "m {}", decline.number())?;
-            decline_lines(out, lines)
+    }
+
+    fn over_plain(&mut self) -> io::Result<()> {
+        let mut cells = vec![in self.heap; None::<TagNumbers>; self.asked.cells as usize]?;
+        self.over(&mut Plain { cells: &mut cells })
+    }
+
+    fn over_bytes(&mut self) -> io::Result<()> {
+        let mut bytes = vec![in self.heap; 0u8; 32 * self.asked.cells as usize]?;
+        self.over(&mut ByteStore { bytes: &mut bytes })
+    }
+
+    // Half of the cells are plain, the rest bytes.
+    fn over_joined(&mut self) -> io::Result<()> {
+        let half = self.asked.cells / 2;
+        let mut cells = vec![in self.heap; None::<TagNumbers>; half as usize]?;
+        let mut bytes = vec![in self.heap; 0u8; 32 * (self.asked.cells - half) as usize]?;
+        self.over(&mut Joined {
+            first: Plain { cells: &mut cells },
+            second: ByteStore { bytes: &mut bytes },
+        })
+    }
+
+    // The window lies within a plain store that has five cells more.
+    fn over_window(&mut self) -> io::Result<()> {
+        let len = u64::from(self.asked.cells);
+        let mut cells = vec![in self.heap; None::<TagNumbers>; self.asked.cells as usize + 5]?;
+        self.over(&mut Window {
+            inner: Plain { cells: &mut cells },
+            start: BEFORE,
+            len,
+        })
+    }
+
+    fn over<S: Store<TagRecord>>(&mut self, store: &mut S) -> io::Result<()> {
+        fill(store, self.asked.cells);
+        match make(self.asked.settings, store) {
+            Ok(size) => {
+                let buckets = size.buckets();
+                writeln!(self.out, "m 0 {buckets}")?;
+                let mut desk = Desk {
+                    heap: self.heap,
+                    out: &mut *self.out,
+                    table: Table {
+                        size,
+                        count: 0,
+                        family: &self.asked.family,
+                        store,
+                    },
+                    spaces: Spaces::new(self.heap, buckets, buckets)?,
+                };
+                for line in self.lines {
+                    desk.answer(*line)?;
+                }
+                Ok(())
+            }
+            Err(decline) => {
+                writeln!(self.out, "m {decline}")?;
+                decline_lines(self.out, self.lines)
+            }
         }
     }
 }
@@ -133,10 +107,10 @@ fn run_over<W: Write, S: Store<TagRecord>>(
 fn fill<S: Store<TagRecord>>(store: &mut S, cells: u32) {
     for cell in 0..cells {
         let numbers = TagNumbers {
-            tag: FIRST_TAG + cell as u64,
+            tag: FIRST_TAG + u64::from(cell),
             grower: cell,
             grain: 1,
         };
-        let _ = store.write(cell as u64, &Cell::Holds(numbers));
+        let _ = store.write(u64::from(cell), &Some(numbers));
     }
 }

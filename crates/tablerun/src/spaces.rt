@@ -1,6 +1,6 @@
 // The two working spaces of an insert, and whether the insert left them as it must.
-ghost use Rattle.std.specs.Prelude.{◌≡◌, MatchBool, IfOk, replicate};
-ghost use Rattle.settle.specs.Rooms.{Zero};
+ghost use Rattle.std.specs.Prelude.{◌≡◌, ◌+◌, MatchBool, IfOk, min, replicate};
+ghost use Rattle.search.specs.Spaces.{Zero};
 ghost use Rattle.tablerun.specs.Spaces.{CountsUp};
 
 use std::alloc::{AllocError, Global};
@@ -46,37 +46,32 @@ impl Spaces {
     }
 }
 
-// 1, 2, 3 and so on.
+// What place i is filled with: 1, 2, 3 and so on.
+fn filled(i: usize) -> u32
+    ensures { result ≡ min (i + 1) 4294967295 }
+{
+    u32::try_from(i.saturating_add(1)).unwrap_or(u32::MAX)
+}
+
 fn count_up(space: &mut [u32])
     ensures { CountsUp space.new }
 {
-    let mut next: u32 = 1;
-    for number in space.iter_mut() {
-        *number = next;
-        next = next.saturating_add(1);
+    for (i, number) in space.iter_mut().enumerate() {
+        *number = filled(i);
     }
 }
 
 fn counts_up(space: &[u32]) -> bool
     ensures { MatchBool result (CountsUp space.now) (CountsUp space.now → ⊥) }
 {
-    let mut next: u32 = 1;
-    for number in space {
-        if *number != next {
-            return false;
-        }
-        next = next.saturating_add(1);
-    }
-    true
+    space
+        .iter()
+        .enumerate()
+        .all(|(i, number)| *number == filled(i))
 }
 
 fn is_zero(space: &[u32]) -> bool
     ensures { MatchBool result (Zero space.now) (Zero space.now → ⊥) }
 {
-    for number in space {
-        if *number != 0 {
-            return false;
-        }
-    }
-    true
+    space.iter().all(|number| *number == 0)
 }
