@@ -1,7 +1,7 @@
-// Looking at one bucket: for a key, for room, for where its records lead. These serve the search and the table, and want
-// a bucket that there is.
+// Looking at one bucket: for a key, for room, for where its records lead. These serve the search and the table, and want a lawful
+// placement and a bucket of it.
 ghost use Rattle.std.specs.Prelude.{option_map, ◌≡◌, ℕ, ◌+◌, ◌*◌, ◌<◌, length, if◌then◌else◌, nat_eq, slice_index_or, None};
-ghost use Rattle.rules.specs.Placements.{word};
+ghost use Rattle.rules.specs.Placements.{Lawful, word};
 ghost use Rattle.placing.specs.Held.{led, led_by};
 ghost use Rattle.placing.specs.Looks.{Looked, Roomy};
 
@@ -32,7 +32,8 @@ impl Gap {
 
 // The room in a bucket; nothing where the key with these words lies in it.
 pub fn look<R: Record, P: Placing<R>>(p: &P, bucket: u32, words: &Words) -> Option<Gap>
-    requires { bucket < (P.Placing.placement p.now).size }
+    requires lawful { Lawful (P.Placing.placement p.now) }
+    requires inside { bucket < (P.Placing.placement p.now).size }
     ensures { Looked (P.Placing.placement p.now) bucket words.now result }
 {
     let slots = p.slots();
@@ -50,7 +51,8 @@ pub fn look<R: Record, P: Placing<R>>(p: &P, bucket: u32, words: &Words) -> Opti
 
 // The lowest empty cell of a bucket, if it has one.
 pub fn room<R: Record, P: Placing<R>>(p: &P, bucket: u32) -> Option<u32>
-    requires { bucket < (P.Placing.placement p.now).size }
+    requires lawful { Lawful (P.Placing.placement p.now) }
+    requires inside { bucket < (P.Placing.placement p.now).size }
     ensures { Roomy (P.Placing.placement p.now) bucket result }
 {
     let slots = p.slots();

@@ -1,7 +1,7 @@
 // What placing a record asks of the cells that records lie in: a table's own, or a plan of them.
 ghost use Rattle.std.specs.Prelude.{option_map, ◌≡◌, ℕ, ◌<◌, length, ◌≢◌, slice_index_or, slice_set, None, Option};
 ghost use Rattle.stores.specs.Makings.{Place, Raw};
-ghost use Rattle.rules.specs.Placements.{Lawful, Placement};
+ghost use Rattle.rules.specs.Placements.{Placement};
 ghost use Rattle.placing.specs.Held.{with_held};
 
 use records::kinds::Record;
@@ -54,7 +54,4 @@ pub trait Placing<R: Record> {
         ensures others { (k : ℕ) → (k ≢ to) → raw self.new k ≡ raw self.old k }
         ensures made { raw self.new to ≡ code self.old to (slice_index_or (placement self.old).held from None) }
         ensures codes { code self.new ≡ code self.old };
-
-    // its buckets and their cells are there, and its choices lie in them
-    ghost lawful: { (s : Self) → Lawful (placement s) };
 }

@@ -1,5 +1,6 @@
-// The search for the nearest bucket with room, over any placing. It serves the walk that makes room, and wants working spaces
-// that are long enough, and a key whose own buckets are full.
+// The search for the nearest bucket with room, over any placing. It serves the walk that makes room, and wants a lawful placement,
+// working spaces that are long enough, and a key whose own buckets are full.
+ghost use Rattle.rules.specs.Placements.{Lawful};
 ghost use Rattle.placing.specs.Looks.{OwnFull};
 ghost use Rattle.search.specs.Marks.{Seeded};
 ghost use Rattle.search.specs.Nets.{net_of};
@@ -14,6 +15,7 @@ use records::kinds::Record;
 
 // Marks the own buckets and no others, and puts each into the queue, once: how many the queue then holds.
 fn seed<R: Record, P: Placing<R>>(p: &P, word: u64, spaces: &mut Spaces<'_>) -> u32
+    requires lawful { Lawful (P.Placing.placement p.now) }
     requires long { Long spaces.old (P.Placing.placement p.now).size }
     requires full { OwnFull (P.Placing.placement p.now) word }
     ensures seeded { Seeded (net_of (P.Placing.placement p.now)) ((P.Placing.placement p.now).lies word) spaces.new.came.now spaces.new.queue.now (P.Placing.placement p.now).choices result }
@@ -37,6 +39,7 @@ fn seed<R: Record, P: Placing<R>>(p: &P, word: u64, spaces: &mut Spaces<'_>) -> 
 // The nearest bucket with room, and in `came` the way back to an own bucket; nothing where no bucket that can be reached has room.
 // Every bucket is queued at most once, and the search goes on until all that can be reached are done.
 pub fn search<R: Record, P: Placing<R>>(p: &P, word: u64, spaces: &mut Spaces<'_>) -> Option<Found>
+    requires lawful { Lawful (P.Placing.placement p.now) }
     requires long { Long spaces.old (P.Placing.placement p.now).size }
     requires full { OwnFull (P.Placing.placement p.now) word }
     ensures searched { Searched (P.Placing.placement p.now) word spaces.new.came.now result }

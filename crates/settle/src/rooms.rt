@@ -1,7 +1,7 @@
 // Making room: the search for the nearest bucket with room, and the walk back along its way. These serve whoever places records, and
-// want working spaces that are long enough, and a key whose own buckets are full.
+// want a lawful placement, working spaces that are long enough, and a key whose own buckets are full.
 ghost use Rattle.std.specs.Prelude.{◌≡◌, ℕ, ◌*◌, ◌<◌, ◌≤◌, length};
-ghost use Rattle.rules.specs.Placements.{LowestEmpty};
+ghost use Rattle.rules.specs.Placements.{Lawful, LowestEmpty};
 ghost use Rattle.rules.specs.Written.{Wrote};
 ghost use Rattle.placing.specs.Held.{OnlyCells};
 ghost use Rattle.placing.specs.Looks.{OwnFull};
@@ -19,6 +19,7 @@ use search::spaces::Spaces;
 // Copies each record on the way back one cell on, from the empty cell that was found to a cell of an own bucket. That cell still
 // holds the record that was copied from it: the new record is to be written there.
 fn walk<R: Record, P: Placing<R>>(p: &mut P, came: &[u32], found: Found) -> Spot
+    requires lawful { Lawful (P.Placing.placement p.old) }
     requires long { (P.Placing.placement p.old).size ≤ length came.now }
     requires empty { LowestEmpty (P.Placing.placement p.old) found.bucket found.cell }
     requires below { found.cell < (P.Placing.placement p.old).size * (P.Placing.placement p.old).cells }
@@ -49,6 +50,7 @@ pub fn make_room<R: Record, P: Placing<R>>(
     word: u64,
     spaces: &mut Spaces<'_>,
 ) -> Option<Spot>
+    requires lawful { Lawful (P.Placing.placement p.old) }
     requires long { Long spaces.old (P.Placing.placement p.old).size }
     requires full { OwnFull (P.Placing.placement p.old) word }
     ensures cells { OnlyCells P.Placing.placement P.Placing.place P.Placing.code p.old p.new }

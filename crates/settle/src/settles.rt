@@ -1,5 +1,6 @@
-// Settling a place for a record whose key is not there yet. It serves whoever places records, and wants working spaces that are
-// long enough, whatever they hold.
+// Settling a place for a record whose key is not there yet. It serves whoever places records, and wants a lawful placement and
+// working spaces that are long enough, whatever they hold.
+ghost use Rattle.rules.specs.Placements.{Lawful};
 ghost use Rattle.rules.specs.Written.{Wrote};
 ghost use Rattle.placing.specs.Held.{OnlyCells};
 ghost use Rattle.search.specs.Spaces.{AllZero, Lent, Long};
@@ -20,7 +21,8 @@ fn spot_for<R: Record, P: Placing<R>>(
     words: &Words,
     spaces: &mut Spaces<'_>,
 ) -> Result<Spot, Decline>
-    requires { Long spaces.old (P.Placing.placement p.old).size }
+    requires lawful { Lawful (P.Placing.placement p.old) }
+    requires long { Long spaces.old (P.Placing.placement p.old).size }
     ensures cells { OnlyCells P.Placing.placement P.Placing.place P.Placing.code p.old p.new }
     ensures settled { Settled (P.Placing.placement p.old) words.now (P.Placing.placement p.new).held (Wrote (P.Placing.code p.old) (P.Placing.raw p.old) (P.Placing.raw p.new) (P.Placing.placement p.new).held) result }
     ensures lent { Lent spaces.old spaces.new }
@@ -42,7 +44,8 @@ pub fn settle<R: Record, P: Placing<R>>(
     words: &Words,
     spaces: &mut Spaces<'_>,
 ) -> Result<Spot, Decline>
-    requires { Long spaces.old (P.Placing.placement p.old).size }
+    requires lawful { Lawful (P.Placing.placement p.old) }
+    requires long { Long spaces.old (P.Placing.placement p.old).size }
     ensures cells { OnlyCells P.Placing.placement P.Placing.place P.Placing.code p.old p.new }
     ensures settled { Settled (P.Placing.placement p.old) words.now (P.Placing.placement p.new).held (Wrote (P.Placing.code p.old) (P.Placing.raw p.old) (P.Placing.raw p.new) (P.Placing.placement p.new).held) result }
     ensures lent { Lent spaces.old spaces.new }

@@ -21,7 +21,6 @@ use records::numbers::Words;
 use search::spaces::Spaces;
 use settle::settles::settle;
 use settle::spot::Spot;
-use std::marker::PhantomData;
 use stores::cells::Cell;
 use stores::store::Store;
 
@@ -44,7 +43,6 @@ fn settle_in<R: Record, F: Family, S: Store<R>>(
         size,
         family,
         store,
-        of: PhantomData::<R>,
     };
     settle::<R, _>(&mut laid, words, spaces)
 }

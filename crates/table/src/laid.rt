@@ -1,6 +1,5 @@
-// The cells of a store as they lie in the buckets of a size, under a family. The store has the used cells of the size.
-ghost use Rattle.std.specs.Prelude.{◌≤◌, length};
-ghost use Rattle.rules.specs.Tables.{used_in};
+// The cells of a store as they lie in the buckets of a size, under a family.
+ghost use Rattle.rules.specs.Placements.{placement_of};
 
 use crate::cells::put;
 use addresses::families::Family;
@@ -9,24 +8,18 @@ use addresses::sizes::Size;
 use placing::placing::Placing;
 use records::kinds::Record;
 use records::numbers::Words;
-use std::marker::PhantomData;
 use stores::cells::Cell;
 use stores::row::Row;
 use stores::store::Store;
 
 #[derive(Drop)]
-pub struct Laid<'f, R: Record, F, S: Store<R>> {
+pub struct Laid<'f, F, S> {
     pub size: Size,
     pub family: &'f F,
     pub store: S,
-    pub of: PhantomData<R>,
-    pub ghost reach: { used_in size ≤ length (S.Store.cells store) },
 }
 
-impl<'f, R: Record, F: Family, S: Store<R>> Placing<R> for Laid<'f, R, F, S> {
-    ghost use Rattle.rules.specs.Placements.{placement_of};
-    ghost use Rattle.rules.proofs.Lawfuls.{lawful_placement};
-
+impl<'f, R: Record, F: Family, S: Store<R>> Placing<R> for Laid<'f, F, S> {
     ghost placement = { λ s. placement_of (λ r. R.Record.words_of (R.Record.key_of r)) (F.Family.hash_of s.family.now) s.size (S.Store.cells s.store) };
 
     ghost place = { λ s. S.Store.place s.store };
@@ -34,8 +27,6 @@ impl<'f, R: Record, F: Family, S: Store<R>> Placing<R> for Laid<'f, R, F, S> {
     ghost raw = { λ s. S.Store.raw s.store };
 
     ghost code = { λ s. S.Store.code s.store };
-
-    ghost lawful = { λ s. lawful_placement _ _ s.size _ s.reach };
 
     fn buckets(&self) -> u32 {
         self.size.buckets()

@@ -9,7 +9,7 @@ returns-then-is_none g c =
     let e = c.slots-slots.ensures in
     let s : c.loop-slot.slot < f.cells = omega arith in
     let h = unmapped_none f.words _ (sym (simp e at c.words_at.ensures) ∙ none_of _ c.if-is_none.ensures) in
-    simp e (roomy f (g.met.P.Placing.lawful _) c.args.bucket c.requires c.loop-slot.slot s h c.loop-slot.invariant)
+    simp e (roomy f c.requires.lawful c.args.bucket c.requires.inside c.loop-slot.slot s h c.loop-slot.invariant)
 
 pub returns : goal.returns
 returns g c =

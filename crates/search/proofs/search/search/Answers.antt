@@ -15,12 +15,12 @@ word_at-held-requires g c =
     let f = g.P.Placing.placement c.args.p.now in
     let b = c.search.invariant.0.lined.buckets c.search.head c.if-head-tail.false in
     let s : c.loop-slot.slot < f.cells = omega arith in
-    simp c.slots-slots.ensures (cell_in f (g.met.P.Placing.lawful c.args.p.now) _ c.loop-slot.slot b s).0
+    simp c.slots-slots.ensures (cell_in f c.requires.lawful _ c.loop-slot.slot b s).0
 
 pub bounds-queue-tail : goal.bounds-queue-tail
 bounds-queue-tail g c =
     let b = c.search.invariant.0.lined.buckets c.search.head c.if-head-tail.false in
-    let e = edge (g.P.Placing.placement c.args.p.now) (g.met.P.Placing.lawful c.args.p.now) (get_or c.search.queue c.search.head 0) (get_or c.loop-choice.queue c.search.head 0) c.loop-slot.slot c.loop-choice.choice _ _ c.leads-next.result b (omega arith) (omega arith)
+    let e = edge (g.P.Placing.placement c.args.p.now) c.requires.lawful (get_or c.search.queue c.search.head 0) (get_or c.loop-choice.queue c.search.head 0) c.loop-slot.slot c.loop-choice.choice _ _ c.leads-next.result b (omega arith) (omega arith)
     c.slots-slots.ensures c.loop-choice.invariant.2 c.word_at-held.ensures c.leads-next.ensures in
     let t = lined_room _ _ _ _ _ c.loop-choice.invariant.0.lined c.leads-next.result (omega arith) (omega arith) c.if-came-next-eq0.true in
     omega arith
@@ -28,7 +28,7 @@ bounds-queue-tail g c =
 pub loop-choice-preserved : goal.loop-choice-preserved
 loop-choice-preserved g c =
     let f = g.P.Placing.placement c.args.p.now in
-    let law = g.met.P.Placing.lawful c.args.p.now in
+    let law = c.requires.lawful in
     let b = c.search.invariant.0.lined.buckets c.search.head c.if-head-tail.false in
     let e = edge f law (get_or c.search.queue c.search.head 0) (get_or c.loop-choice.queue c.search.head 0) c.loop-slot.slot c.loop-choice.choice _ _ c.leads-next.result b (omega arith) (omega arith)
     c.slots-slots.ensures c.loop-choice.invariant.2 c.word_at-held.ensures c.leads-next.ensures in
@@ -59,7 +59,7 @@ search-preserved g c = (bfs_turn _ _ _ _ _ _ _ _ c.loop-slot.invariant.0 (omega 
 pub returns-in-Some-clause-searched : goal.returns-in-Some-clause-searched
 returns-in-Some-clause-searched g c =
     let f = g.P.Placing.placement c.args.p.now in
-    let law = g.met.P.Placing.lawful c.args.p.now in
+    let law = c.requires.lawful in
     let b = c.search.invariant.0.lined.buckets c.search.head c.if-head-tail.false in
     let e = edge f law (get_or c.search.queue c.search.head 0) (get_or c.loop-choice.queue c.search.head 0) c.loop-slot.slot c.loop-choice.choice _ _ c.leads-next.result b (omega arith) (omega arith)
     c.slots-slots.ensures c.loop-choice.invariant.2 c.word_at-held.ensures c.leads-next.ensures in

@@ -7,7 +7,7 @@ use Rattle.search.proofs.search.seed.Goals.{then-came-bucket-eq0, else-came-buck
 
 pub bounds-queue-tail : goal.bounds-queue-tail
 bounds-queue-tail g c =
-    let i = (g.met.P.Placing.lawful c.args.p.now).inside c.args.word c.loop-choice.choice (omega arith) in
+    let i = c.requires.lawful.inside c.args.word c.loop-choice.choice (omega arith) in
     let t = lined_room _ _ _ _ _ c.loop-choice.invariant.lined c.bucket-bucket.result (omega arith) (omega arith) c.if-came-bucket-eq0.true in
     omega arith
 
@@ -18,7 +18,7 @@ pub loop-choice-preserved : goal.loop-choice-preserved
 loop-choice-preserved g c =
     let f = g.P.Placing.placement c.args.p.now in
     let wl : c.loop-choice.choice < f.choices = omega arith in
-    let i = (g.met.P.Placing.lawful c.args.p.now).inside c.args.word c.loop-choice.choice wl in
+    let i = c.requires.lawful.inside c.args.word c.loop-choice.choice wl in
     let a = sym c.bucket-bucket.ensures in
     let r = shut f c.bucket-bucket.result (simp c.bucket-bucket.ensures (c.requires.full c.loop-choice.choice wl)) in
     elim c.if-came-bucket-eq0.branch [

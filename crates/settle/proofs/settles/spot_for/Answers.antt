@@ -8,7 +8,7 @@ use Rattle.settle.proofs.settles.spot_for.Goals as goal
 pub returns-then-best-gt0-clause-settled : goal.returns-then-best-gt0-clause-settled
 returns-then-best-gt0-clause-settled g c =
     let seen = surveyed _ _ _ c.survey.ensures c.in_ok-best.best _ c.ok_or.ensures.value c.in_ok-best.was in
-    settled_direct _ _ _ _ _ c.hash-word.ensures _ seen (g.met.P.Placing.lawful c.args.p.now) c.if-best-gt0.true refl (wrote_none _ _ _)
+    settled_direct _ _ _ _ _ c.hash-word.ensures _ seen c.requires.lawful c.if-best-gt0.true refl (wrote_none _ _ _)
 
 pub make_room-requires-clause-full : goal.make_room-requires-clause-full
 make_room-requires-clause-full g c =

@@ -8,7 +8,7 @@ pub returns-in_err-gap : goal.returns-in_err-gap
 returns-in_err-gap g c =
     let f = g.P.Placing.placement c.args.p.now in
     let l = subst (λ b. Looked f b c.args.words.now c.look.result) c.bucket.ensures c.look.ensures in
-    rw c.from_residual.ensures (surveyed_none f (g.met.P.Placing.lawful c.args.p.now) c.args.words.now c.args.word c.requires c.loop-choice.choice (omega arith) (l.there c.in_err-gap.was))
+    rw c.from_residual.ensures (surveyed_none f c.requires.lawful c.args.words.now c.args.word c.requires.hashed c.loop-choice.choice (omega arith) (l.there c.in_err-gap.was))
 
 pub loop-choice-preserved : goal.loop-choice-preserved
 loop-choice-preserved g c =
@@ -24,4 +24,4 @@ loop-choice-preserved g c =
 pub returns : goal.returns
 returns g c =
     let f = g.P.Placing.placement c.args.p.now in
-    surveyed_some f (g.met.P.Placing.lawful c.args.p.now) c.args.words.now c.args.word c.requires c.loop-choice.best c.loop-choice.choice (omega arith) c.loop-choice.invariant.0 c.loop-choice.invariant.1
+    surveyed_some f c.requires.lawful c.args.words.now c.args.word c.requires.hashed c.loop-choice.best c.loop-choice.choice (omega arith) c.loop-choice.invariant.0 c.loop-choice.invariant.1

@@ -1,9 +1,13 @@
 use Rattle.std.proofs.Common.{rules}
 use Rattle.rules.specs.Placements.{placement_of}
 use Rattle.rules.specs.Written.{Wrote}
+use Rattle.rules.proofs.Lawfuls.{lawful_placement}
 use Rattle.settle.specs.Settled.{Settled}
 use Rattle.table.proofs.Puts.{carried}
 use Rattle.table.proofs.insert.settle_in.Goals as goal
+
+pub settle-requires : goal.settle-requires
+settle-requires g c = record { lawful = lawful_placement _ _ c.args.size _ c.requires.reach; long = c.requires.long }
 
 pub returns-clause-settled : goal.returns-clause-settled
 returns-clause-settled g c =
